@@ -1,0 +1,248 @@
+-- n clocks at once, proved once over the divisor: a timer's position is a countdown of clocks, and each time it runs out the counter takes a pulse.
+-- It serves delay and pulse-width modes and all four timers. Assumes nothing.
+use Prim.Native.Nat.{ℕ, zero, suc, _+_, _-_, _%_, _≤_, _<_}
+use mathlib.Core.Path.{_≡_, refl, sym, ap, ap₂, _∙_}
+use mathlib.Core.Bool.{Bool, true, false, cond, not, _&&_, _||_, false≢true}
+use mathlib.Core.List.{[], _∷_}
+use native.Mathlib.Omega.{arith}
+use native.Mathlib.Numerals.{one-add}
+use native.Mathlib.Nat.{zero-add, sub-zero, le-trans, le-refl}
+use lib.Dec.{eqb, leb, ltb, lit≤}
+use lib.ListN.{getD}
+use borrow.Author.Tests.{le-leb, lt-leb, lt-ltb, le-ltb, leb-true, leb-false, ltb-true, ltb-false, ne-eqb}
+use Rattle.timer.specs.declared.Timer.{Timer}
+use Rattle.timer.specs.Timers.{divisor, delay, pulseWidth, runs, at, timeout, reloaded, countedDown, pulsed, atDivisor, clocked, reloads, clocks, timeouts}
+use Rattle.timer.specs.Countdown.{unit, left, ranOut, span, toGo, toggled, pulsesIn, positionAfter, timeoutsIn, counterAfter}
+use Rattle.timer.proofs.Pulses.{pulses, pulseReloads, pulsed-mode, pulsed-reload, pulsed-position, pulsed-byte, pulses-count, pulses-at-once, atPulse}
+
+-- ---- one clock, in its three cases
+pub clock-idle : (active : Bool) (t : Timer) → runs active t ≡ false → clocked active t ≡ t
+unfolding clocked
+clock-idle active t h = rw h refl
+
+pub clock-pulse : (active : Bool) (t : Timer) → runs active t ≡ true → divisor (t .mode) ≤ t .position + 1 → clocked active t ≡ pulsed (at 0 t)
+unfolding clocked atDivisor
+clock-pulse active t h e = rw (h, le-leb _ _ e) refl
+
+pub clock-on : (active : Bool) (t : Timer) → runs active t ≡ true → t .position + 1 < divisor (t .mode) → clocked active t ≡ at (t .position + 1) t
+unfolding clocked atDivisor
+clock-on active t h e = rw (h, lt-leb _ _ e) refl
+
+-- ---- a timer that does not run
+pub idle-clocks : (active : Bool) (n : ℕ) (t : Timer) → runs active t ≡ false → clocks active n t ≡ t
+unfolding clocks clocked
+idle-clocks active zero t h = refl
+idle-clocks active (suc n) t h = rw h (idle-clocks active n t h)
+
+pub idle-timeouts : (active : Bool) (n : ℕ) (t : Timer) → runs active t ≡ false → timeouts active n t ≡ 0
+unfolding timeouts clocked reloads
+idle-timeouts active zero t h = refl
+idle-timeouts active (suc n) t h = rw h (zero-add _ ∙ idle-timeouts active n t h)
+
+-- ---- a timer that runs, over the divisor d
+-- one clock
+abbrev turn : ℕ → Timer → Timer
+turn d t = cond (leb d (t .position + 1)) (pulsed (at 0 t)) (at (t .position + 1) t)
+
+-- a pulse moves no position
+pulsed-at : (p : ℕ) (t : Timer) → at p (pulsed (at 0 t)) ≡ pulsed (at p t)
+unfolding pulsed at reloaded countedDown
+pulsed-at p t = go (eqb (t .counter) 1)
+  where
+    go : (b : Bool) → at p (cond b (reloaded (at 0 t)) (countedDown (at 0 t))) ≡ cond b (reloaded (at p t)) (countedDown (at p t))
+    go true = refl
+    go false = refl
+
+-- the clocks to go, and one clock as a unit of that countdown
+toGo-below : (d p : ℕ) → p < d → toGo d p ≡ d - p
+unfolding toGo
+toGo-below d p h = rw (lt-ltb p d h)
+
+pub toGo-bounds : (d p : ℕ) → 1 ≤ d → (1 ≤ toGo d p) × (toGo d p ≤ d)
+unfolding toGo
+toGo-bounds d p q = go (ltb p d) refl
+  where
+    go : (b : Bool) → ltb p d ≡ b → (1 ≤ cond (ltb p d) (d - p) 1) × (cond (ltb p d) (d - p) 1 ≤ d)
+    go true e = let f : p < d = ltb-true _ _ e in rw e (omega arith, omega arith)
+    go false e = rw e (le-refl 1, q)
+
+unit-clock : (d p : ℕ) → p + 1 < d → toGo d (p + 1) ≡ unit d (toGo d p)
+unfolding unit
+unit-clock d p h = rw (toGo-below d (p + 1) h, toGo-below d p (omega arith), ne-eqb (d - p) 1 (omega arith)) (omega arith)
+
+unit-pulse : (d p : ℕ) → 1 ≤ d → d ≤ p + 1 → unit d (toGo d p) ≡ d
+unfolding unit toGo
+unit-pulse d p q h = go (ltb p d) refl
+  where
+    go : (b : Bool) → ltb p d ≡ b → cond (eqb (cond (ltb p d) (d - p) 1) 1) d (cond (ltb p d) (d - p) 1 - 1) ≡ d
+    go true e = let f : p < d = ltb-true _ _ e in let g : d - p ≡ 1 = omega arith in rw (e, g) refl
+    go false e = rw e refl
+
+-- the last clock of a period is the one that gives the pulse
+last-clock : (d p : ℕ) → 1 ≤ d → d ≤ p + 1 → eqb (toGo d p) 1 ≡ true
+unfolding toGo
+last-clock d p q h = go (ltb p d) refl
+  where
+    go : (b : Bool) → ltb p d ≡ b → eqb (cond (ltb p d) (d - p) 1) 1 ≡ true
+    go true e = let f : p < d = ltb-true _ _ e in let g : d - p ≡ 1 = omega arith in rw (e, g) refl
+    go false e = rw e refl
+
+early-clock : (d p : ℕ) → p + 1 < d → eqb (toGo d p) 1 ≡ false
+early-clock d p h = rw (toGo-below d p (omega arith)) (ne-eqb (d - p) 1 (omega arith))
+
+-- the timer after n clocks, and the reloads that they made
+abbrev after : ℕ → ℕ → ℕ → Timer → Timer
+after d n first t = pulses (ranOut d n first) (at (d - left d n first) t)
+
+abbrev made : ℕ → ℕ → ℕ → Timer → ℕ
+made d n first t = pulseReloads (ranOut d n first) (at 0 t)
+
+module _ (d n : ℕ) (t : Timer) where
+  after-none : t .position < d → after d 0 (toGo d (t .position)) t ≡ t
+  unfolding pulses ranOut left at
+  after-none h = ap (λ (q : ℕ). at q t) (rw (toGo-below d (t .position) h) (omega arith))
+
+  after-clock : t .position + 1 < d → after d n (toGo d (t .position + 1)) (at (t .position + 1) t) ≡ after d (suc n) (toGo d (t .position)) t
+  unfolding ranOut left at
+  after-clock h = rw (early-clock d (t .position) h, zero-add, ← unit-clock d (t .position) h) refl
+
+  after-pulse : 1 ≤ d → d ≤ t .position + 1 → after d n (toGo d 0) (pulsed (at 0 t)) ≡ after d (suc n) (toGo d (t .position)) t
+  unfolding ranOut left pulses
+  after-pulse q h = rw (last-clock d (t .position) q h, unit-pulse d (t .position) q h, one-add, toGo-below d 0 q, sub-zero, pulsed-at) refl
+
+  made-clock : t .position + 1 < d → made d n (toGo d (t .position + 1)) (at (t .position + 1) t) ≡ made d (suc n) (toGo d (t .position)) t
+  unfolding ranOut at
+  made-clock h = rw (early-clock d (t .position) h, zero-add, ← unit-clock d (t .position) h) refl
+
+  made-pulse : 1 ≤ d → d ≤ t .position + 1 → cond (timeout t) 1 0 + made d n (toGo d 0) (pulsed (at 0 t)) ≡ made d (suc n) (toGo d (t .position)) t
+  unfolding ranOut pulseReloads at
+  made-pulse q h = rw (last-clock d (t .position) q h, unit-pulse d (t .position) q h, one-add, toGo-below d 0 q, sub-zero) (ap (λ (u : Timer). cond (eqb (t .counter) 1) 1 0 + pulseReloads (ranOut d n d) u) (pulsed-at 0 t))
+
+-- ---- a running timer's own divisor
+divisor-least : (k : ℕ) → 1 ≤ k → k < 8 → 4 ≤ getD (0 ∷ 4 ∷ 10 ∷ 16 ∷ 50 ∷ 64 ∷ 100 ∷ 200 ∷ []) k 0
+divisor-least zero p h = absurd (omega arith)
+divisor-least (suc zero) p h = lit≤ tt
+divisor-least (suc (suc zero)) p h = lit≤ tt
+divisor-least (suc (suc (suc zero))) p h = lit≤ tt
+divisor-least (suc (suc (suc (suc zero)))) p h = lit≤ tt
+divisor-least (suc (suc (suc (suc (suc zero))))) p h = lit≤ tt
+divisor-least (suc (suc (suc (suc (suc (suc zero)))))) p h = lit≤ tt
+divisor-least (suc (suc (suc (suc (suc (suc (suc zero))))))) p h = lit≤ tt
+divisor-least (suc (suc (suc (suc (suc (suc (suc (suc k)))))))) p h = absurd (omega arith)
+
+between : (low high mode : ℕ) → leb low mode && leb mode high ≡ true → (low ≤ mode) × (mode ≤ high)
+between low high mode e = go (leb low mode) (leb mode high) refl refl e
+  where
+    go : (a b : Bool) → leb low mode ≡ a → leb mode high ≡ b → a && b ≡ true → (low ≤ mode) × (mode ≤ high)
+    go true true p q e = (leb-true _ _ p, leb-true _ _ q)
+    go true false p q e = absurd (false≢true e)
+    go false true p q e = absurd (false≢true e)
+    go false false p q e = absurd (false≢true e)
+
+pub running-divisor : (active : Bool) (t : Timer) → runs active t ≡ true → 4 ≤ divisor (t .mode)
+unfolding runs divisor delay pulseWidth
+running-divisor active t h = go (delay (t .mode)) (pulseWidth (t .mode)) active refl refl h
+  where
+    go : (a b c : Bool) → delay (t .mode) ≡ a → pulseWidth (t .mode) ≡ b → (a || b && c) ≡ true → 4 ≤ divisor (t .mode)
+    go true b c p q e = let w : (1 ≤ t .mode) × (t .mode ≤ 7) = between 1 7 (t .mode) p in divisor-least (t .mode % 8) (omega arith) (omega arith)
+    go false true c p q e = let w : (9 ≤ t .mode) × (t .mode ≤ 15) = between 9 15 (t .mode) q in divisor-least (t .mode % 8) (omega arith) (omega arith)
+    go false false c p q e = absurd (false≢true e)
+
+-- ---- the law
+abbrev ended : ℕ → Timer → Timer
+ended n t = after (divisor (t .mode)) n (toGo (divisor (t .mode)) (t .position)) t
+
+abbrev counted : ℕ → Timer → ℕ
+counted n t = made (divisor (t .mode)) n (toGo (divisor (t .mode)) (t .position)) t
+
+same-runs : (active : Bool) (u t : Timer) → u .mode ≡ t .mode → runs active u ≡ runs active t
+unfolding runs
+same-runs active u t e = ap (λ (m : ℕ). delay m || pulseWidth m && active) e
+
+-- what one clock leaves of a timer that runs
+module _ (active : Bool) (t : Timer) (h : runs active t ≡ true) where
+  by-clock : (P : Timer → Type 0) → (divisor (t .mode) ≤ t .position + 1 → P (pulsed (at 0 t))) → (t .position + 1 < divisor (t .mode) → P (at (t .position + 1) t)) → P (clocked active t)
+  unfolding clocked atDivisor
+  by-clock P f g = rw h (go (leb (divisor (t .mode)) (t .position + 1)) refl)
+    where
+      go : (b : Bool) → leb (divisor (t .mode)) (t .position + 1) ≡ b → P (cond b (pulsed (at 0 t)) (at (t .position + 1) t))
+      go true e = f (leb-true _ _ e)
+      go false e = g (leb-false _ _ e)
+
+  least : 1 ≤ divisor (t .mode)
+  least = le-trans (lit≤ tt) (running-divisor active t h)
+
+  clocked-mode : clocked active t .mode ≡ t .mode
+  unfolding at
+  clocked-mode = by-clock (λ u. u .mode ≡ t .mode) (λ e. pulsed-mode (at 0 t)) (λ e. refl)
+
+  clocked-runs : runs active (clocked active t) ≡ true
+  clocked-runs = same-runs active (clocked active t) t clocked-mode ∙ h
+
+  clocked-below : clocked active t .position < divisor (clocked active t .mode)
+  unfolding at
+  clocked-below = rw clocked-mode (by-clock (λ u. u .position < divisor (t .mode)) (λ e. rw (pulsed-position (at 0 t)) least) (λ e. e))
+
+  -- n clocks more end where n + 1 of the timer do, and make the reloads that those make after the first
+  clocked-ended : (n : ℕ) → ended n (clocked active t) ≡ ended (suc n) t
+  unfolding at
+  clocked-ended n =
+      ap (λ (d : ℕ). after d n (toGo d (clocked active t .position)) (clocked active t)) (ap divisor clocked-mode)
+      ∙ by-clock (λ u. after (divisor (t .mode)) n (toGo (divisor (t .mode)) (u .position)) u ≡ ended (suc n) t)
+      (λ e. ap (λ (q : ℕ). after (divisor (t .mode)) n (toGo (divisor (t .mode)) q) (pulsed (at 0 t))) (pulsed-position (at 0 t)) ∙ after-pulse (divisor (t .mode)) n t least e)
+      (λ e. after-clock (divisor (t .mode)) n t e)
+
+  reloads-pulse : divisor (t .mode) ≤ t .position + 1 → reloads active t ≡ cond (timeout t) 1 0
+  unfolding reloads atDivisor
+  reloads-pulse e = rw (h, le-leb _ _ e) refl
+
+  reloads-clock : t .position + 1 < divisor (t .mode) → reloads active t ≡ 0
+  unfolding reloads atDivisor
+  reloads-clock e = rw (h, lt-leb _ _ e) refl
+
+  clocked-counted : (n : ℕ) → reloads active t + counted n (clocked active t) ≡ counted (suc n) t
+  unfolding at
+  clocked-counted n =
+      ap (λ (d : ℕ). reloads active t + made d n (toGo d (clocked active t .position)) (clocked active t)) (ap divisor clocked-mode)
+      ∙ by-clock (λ u. reloads active t + made (divisor (t .mode)) n (toGo (divisor (t .mode)) (u .position)) u ≡ counted (suc n) t)
+      (λ e. ap₂ (λ (r q : ℕ). r + made (divisor (t .mode)) n (toGo (divisor (t .mode)) q) (pulsed (at 0 t))) (reloads-pulse e) (pulsed-position (at 0 t)) ∙ made-pulse (divisor (t .mode)) n t least e)
+      (λ e. ap (λ (r : ℕ). r + made (divisor (t .mode)) n (toGo (divisor (t .mode)) (t .position + 1)) (at (t .position + 1) t)) (reloads-clock e) ∙ zero-add _ ∙ made-clock (divisor (t .mode)) n t e)
+
+-- n clocks of a timer that runs, its position below its divisor
+clocks-below : (active : Bool) (n : ℕ) (t : Timer) → runs active t ≡ true → t .position < divisor (t .mode) → clocks active n t ≡ ended n t
+unfolding clocks
+clocks-below active zero t h p = sym (after-none (divisor (t .mode)) 0 t p)
+clocks-below active (suc n) t h p =
+    clocks-below active n (clocked active t) (clocked-runs active t h) (clocked-below active t h) ∙ clocked-ended active t h n
+
+-- and of any that runs, from the first clock on
+clocks-running : (active : Bool) (n : ℕ) (t : Timer) → runs active t ≡ true → clocks active (suc n) t ≡ ended (suc n) t
+unfolding clocks
+clocks-running active n t h =
+    clocks-below active n (clocked active t) (clocked-runs active t h) (clocked-below active t h) ∙ clocked-ended active t h n
+
+timeouts-running : (active : Bool) (n : ℕ) (t : Timer) → runs active t ≡ true → timeouts active n t ≡ counted n t
+unfolding timeouts ranOut pulseReloads
+timeouts-running active zero t h = refl
+timeouts-running active (suc n) t h =
+    ap (λ (m : ℕ). reloads active t + m) (timeouts-running active n (clocked active t) (clocked-runs active t h)) ∙ clocked-counted active t h n
+
+-- ---- the law, as the code computes it
+-- the timer after n clocks, n not 0
+abbrev pub atOnce : ℕ → Timer → Timer
+atOnce n t = record {
+  mode = t .mode;
+  reload = t .reload;
+  counter = counterAfter (pulsesIn n t) t;
+  position = positionAfter n t;
+  output = toggled (timeoutsIn (pulsesIn n t) t) (t .output);
+}
+
+pub clocks-at-once : (active : Bool) (n : ℕ) (t : Timer) → runs active t ≡ true → t .reload < 256 → t .counter < 256 → (n ≡ 0 → ⊥) → clocks active n t ≡ atOnce n t
+unfolding pulsesIn positionAfter timeoutsIn counterAfter at atPulse
+clocks-at-once active zero t h r k p = absurd (p refl)
+clocks-at-once active (suc n) t h r k p = clocks-running active n t h ∙ pulses-at-once (pulsesIn (suc n) t) (at (positionAfter (suc n) t) t) r k
+
+pub timeouts-at-once : (active : Bool) (n : ℕ) (t : Timer) → runs active t ≡ true → timeouts active n t ≡ timeoutsIn (pulsesIn n t) t
+unfolding pulsesIn timeoutsIn at
+timeouts-at-once active n t h = timeouts-running active n t h ∙ pulses-count (pulsesIn n t) (at 0 t)

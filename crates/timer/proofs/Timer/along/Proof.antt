@@ -1,0 +1,51 @@
+-- `Timer::along` meets its contract: the clocks to go are a countdown from the divisor. Assumes nothing.
+use Prim.Native.Nat.{ℕ, _-_, _≤_, _<_, _%_}
+use mathlib.Core.Path.{_≡_, _∙_, sym, ap, ap₂}
+use borrow.Author.Needs.{needs}
+use native.Mathlib.Omega.{arith}
+use native.Mathlib.Nat.{mod-eq-of-lt, lt-of-le-of-lt, sub-le}
+use Rattle.timer.specs.Countdown.{left, ranOut, toGo, pulsesIn, positionAfter}
+use Rattle.timer.proofs.Countdowns.{left-le}
+use Rattle.timer.proofs.Clocks.{toGo-bounds}
+use Rattle.timer.proofs.Timer.along.Statement.{statement}
+use Rattle.timer.proofs.Timer.along.Tie as tie
+
+divisor-of-requires : tie.Need-divisor-of-requires
+divisor-of-requires c κs = search needs
+
+cast-d : tie.Need-cast-d
+cast-d c = search needs
+
+to-go-requires : tie.Need-to-go-requires
+to-go-requires c κs = search needs
+
+-- the divisor as read, the clocks to go from it and what is left of them
+within : (n p d first l : ℕ) → 1 ≤ d → first ≡ toGo d p → l ≡ left d n first → l ≤ d
+within n p d first l q e f = rw (f, e) (left-le d n (toGo d p) (toGo-bounds d p q .1))
+
+count-requires : tie.Need-count-requires
+count-requires c κs =
+    let d : 1 ≤ c .before .divisor-of .result = rw (c .before .divisor-of .ensures) (c .before .before .pre) in
+    (rw (c .to-go .ensures) (toGo-bounds _ _ d .0), d)
+
+sub-t6 : tie.Need-sub-t6
+sub-t6 c =
+    within (c .before .before .before .before .args .n) (c .before .before .before .before .args .self .position) (c .before .before .before .divisor-of .result) (c .before .before .to-go .result) (c .before .count .result .left)
+    (rw (c .before .before .before .divisor-of .ensures) (c .before .before .before .before .pre)) (c .before .before .to-go .ensures) (c .before .count .ensures .1)
+
+cast-t5 : tie.Need-cast-t5
+cast-t5 c = search needs
+
+placed : (n p d e first l : ℕ) → d < 256 → d ≡ e → first ≡ toGo d p → l ≡ left d n first → (d - l) % 256 ≡ e - left e n (toGo e p)
+placed n p d e first l h q f g = mod-eq-of-lt (lt-of-le-of-lt (sub-le d l) h) ∙ cc
+
+returns : tie.Need-returns
+unfolding pulsesIn positionAfter
+returns c = (
+  cc,
+  placed (c .before .before .before .before .args .n) (c .before .before .before .before .args .self .position) (c .before .before .before .divisor-of .result) _ (c .before .before .to-go .result) (c .before .count .result .left)
+      (omega arith) (c .before .before .before .divisor-of .ensures) (c .before .before .to-go .ensures) (c .before .count .ensures .1),
+)
+
+pub along-spec : {M : Type 1} → statement M
+along-spec = tie.close (tie.spec divisor-of-requires cast-d to-go-requires count-requires sub-t6 cast-t5 returns)

@@ -139,14 +139,21 @@ between low high mode e = go (leb low mode) (leb mode high) refl refl e
     go false true p q e = absurd (false≢true e)
     go false false p q e = absurd (false≢true e)
 
-pub running-divisor : (active : Bool) (t : Timer) → runs active t ≡ true → 4 ≤ divisor (t .mode)
-unfolding runs divisor delay pulseWidth
-running-divisor active t h = go (delay (t .mode)) (pulseWidth (t .mode)) active refl refl h
+pub divisor-runs : (mode : ℕ) → (mode % 8 ≡ 0 → ⊥) → 4 ≤ divisor mode
+unfolding divisor
+divisor-runs mode h = divisor-least (mode % 8) (omega arith) (omega arith)
+
+pub running-row : (active : Bool) (t : Timer) → runs active t ≡ true → t .mode % 8 ≡ 0 → ⊥
+unfolding runs delay pulseWidth
+running-row active t h z = go (delay (t .mode)) (pulseWidth (t .mode)) refl refl h
   where
-    go : (a b c : Bool) → delay (t .mode) ≡ a → pulseWidth (t .mode) ≡ b → (a || b && c) ≡ true → 4 ≤ divisor (t .mode)
-    go true b c p q e = let w : (1 ≤ t .mode) × (t .mode ≤ 7) = between 1 7 (t .mode) p in divisor-least (t .mode % 8) (omega arith) (omega arith)
-    go false true c p q e = let w : (9 ≤ t .mode) × (t .mode ≤ 15) = between 9 15 (t .mode) q in divisor-least (t .mode % 8) (omega arith) (omega arith)
-    go false false c p q e = absurd (false≢true e)
+    go : (a b : Bool) → delay (t .mode) ≡ a → pulseWidth (t .mode) ≡ b → (a || b && active) ≡ true → ⊥
+    go true b p q e = let w : (1 ≤ t .mode) × (t .mode ≤ 7) = between 1 7 (t .mode) p in omega arith
+    go false true p q e = let w : (9 ≤ t .mode) × (t .mode ≤ 15) = between 9 15 (t .mode) q in omega arith
+    go false false p q e = false≢true e
+
+pub running-divisor : (active : Bool) (t : Timer) → runs active t ≡ true → 4 ≤ divisor (t .mode)
+running-divisor active t h = divisor-runs (t .mode) (running-row active t h)
 
 -- ---- the law
 abbrev ended : ℕ → Timer → Timer
@@ -172,14 +179,14 @@ module _ (active : Bool) (t : Timer) (h : runs active t ≡ true) where
   least : 1 ≤ divisor (t .mode)
   least = le-trans (lit≤ tt) (running-divisor active t h)
 
-  clocked-mode : clocked active t .mode ≡ t .mode
+  pub clocked-mode : clocked active t .mode ≡ t .mode
   unfolding at
   clocked-mode = by-clock (λ u. u .mode ≡ t .mode) (λ e. pulsed-mode (at 0 t)) (λ e. refl)
 
-  clocked-runs : runs active (clocked active t) ≡ true
+  pub clocked-runs : runs active (clocked active t) ≡ true
   clocked-runs = same-runs active (clocked active t) t clocked-mode ∙ h
 
-  clocked-below : clocked active t .position < divisor (clocked active t .mode)
+  pub clocked-below : clocked active t .position < divisor (clocked active t .mode)
   unfolding at
   clocked-below = rw clocked-mode (by-clock (λ u. u .position < divisor (t .mode)) (λ e. rw (pulsed-position (at 0 t)) least) (λ e. e))
 

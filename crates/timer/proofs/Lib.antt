@@ -2,3 +2,4 @@
 pub mod Countdowns
 pub mod Pulses
 pub mod Clocks
+pub mod Rule

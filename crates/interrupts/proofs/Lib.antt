@@ -1,0 +1,6 @@
+-- The laws of sets of channels and of the interrupt controller that callers use.
+pub mod Tables
+pub mod Sets
+pub mod Requests
+pub mod Neighbours
+pub mod Rule

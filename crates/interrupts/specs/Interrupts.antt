@@ -1,0 +1,98 @@
+-- Document 01, "Registers" and "Channels": the rules of the interrupt controller, in the paper's words.
+use Prim.Native.Nat.{ℕ, zero, suc, _+_, _-_, _*_, _/_, _%_, _^_}
+use mathlib.Core.Bool.{Bool, true, false, cond, not, _&&_, _||_}
+use lib.Bits.{bitAnd, bitOr}
+use lib.Dec.{ltb, eqb}
+use Rattle.interrupts.specs.Channels.{has, setOf, channel, half, withHalf}
+use Rattle.interrupts.specs.declared.Channel.{Channel}
+use Rattle.interrupts.specs.declared.Half.{Half}
+use Rattle.interrupts.specs.declared.Interrupts.{Interrupts}
+use Rattle.interrupts.specs.declared.Requesting.{Requesting}
+use Rattle.interrupts.specs.declared.Requesting.the-variants.{By, Nobody}
+use Rattle.interrupts.specs.declared.Reply.{Reply}
+use Rattle.interrupts.specs.declared.Reply.the-variants.{Vector, PassedOn, Held}
+use Rattle.interrupts.specs.declared.Acknowledged.{Acknowledged}
+
+-- ---- registers
+-- "IPR, ISR: a bit written 0 is cleared, a bit written 1 stays as it was."
+unfoldable pub kept : Half → ℕ → ℕ → ℕ
+kept h s v = withHalf h s (bitAnd (half h s) v)
+
+-- "IER: a write stores and clears the pending bits where it wrote 0; in-service bits stay."
+abbrev pub enabledWritten : Half → ℕ → Interrupts → Interrupts
+enabledWritten h v i = record { enabled = withHalf h (i .enabled) v; pending = kept h (i .pending) v; service = i .service; mask = i .mask; vector = i .vector }
+
+abbrev pub pendingWritten : Half → ℕ → Interrupts → Interrupts
+pendingWritten h v i = record { enabled = i .enabled; pending = kept h (i .pending) v; service = i .service; mask = i .mask; vector = i .vector }
+
+abbrev pub serviceWritten : Half → ℕ → Interrupts → Interrupts
+serviceWritten h v i = record { enabled = i .enabled; pending = i .pending; service = kept h (i .service) v; mask = i .mask; vector = i .vector }
+
+-- "AER, DDR, IMR: a write stores."
+abbrev pub maskWritten : Half → ℕ → Interrupts → Interrupts
+maskWritten h v i = record { enabled = i .enabled; pending = i .pending; service = i .service; mask = withHalf h (i .mask) v; vector = i .vector }
+
+-- "Bit 3 is S"
+unfoldable pub S : ℕ → Bool
+S vector = has vector 3
+
+-- "VR: bits 7 to 3 are stored; bits 2 to 0 read 0. Bit 3 is S; writing S as 0 clears ISRA and ISRB."
+unfoldable pub vectorWritten : ℕ → Interrupts → Interrupts
+vectorWritten v i = record { enabled = i .enabled; pending = i .pending; service = cond (S v) (i .service) 0; mask = i .mask; vector = v / 8 * 8 }
+
+-- "Reset clears [..] IER, IPR, ISR, IMR, VR"; "A fresh device is all zero."
+abbrev pub clearInterrupts : Interrupts
+clearInterrupts = record { enabled = 0; pending = 0; service = 0; mask = 0; vector = 0 }
+
+-- ---- channels
+-- "A raise on an enabled channel sets its pending bit; on a disabled one it does nothing.", of each channel of a set
+unfoldable pub raised : ℕ → Interrupts → Interrupts
+raised s i = record { enabled = i .enabled; pending = bitOr (i .pending) (bitAnd s (i .enabled)); service = i .service; mask = i .mask; vector = i .vector }
+
+-- "A channel requests if it is pending, its mask bit is 1 and no channel equal to or above it is in service." (A set has no channel equal to or above c if, as a number, it is below 2 ^ c.)
+unfoldable pub requests : Interrupts → ℕ → Bool
+requests i c = has (i .pending) c && has (i .mask) c && ltb (i .service) (2 ^ c)
+
+-- "IRQ is asserted exactly if some channel requests.": some channel below n, and of all sixteen
+unfoldable pub someRequests : ℕ → Interrupts → Bool
+someRequests zero i = false
+someRequests (suc c) i = requests i c || someRequests c i
+
+unfoldable pub irq : Interrupts → Bool
+irq i = someRequests 16 i
+
+-- "the highest requesting channel", of those below n, and of all sixteen
+unfoldable pub highestBelow : ℕ → Interrupts → Requesting
+highestBelow zero i = Nobody
+highestBelow (suc c) i = cond (requests i c) (By (channel c)) (highestBelow c i)
+
+unfoldable pub highest : Interrupts → Requesting
+highest i = highestBelow 16 i
+
+-- "the highest requesting channel c gives the vector (VR bits 7 to 4) × 16 + c, its pending bit is cleared, and its in-service bit is set if S is 1."
+unfoldable pub given : Channel → Interrupts → Interrupts
+given c i = record {
+  enabled = i .enabled;
+  pending = bitAnd (i .pending) (65535 - setOf c);
+  service = cond (S (i .vector)) (bitOr (i .service) (setOf c)) (i .service);
+  mask = i .mask;
+  vector = i .vector;
+}
+
+unfoldable pub vectorOf : Channel → Interrupts → ℕ
+vectorOf c i = i .vector / 16 * 16 + c .0
+
+-- "With IEI asserted and no request it is "passed on" (IEO asserted). In both, where the acknowledge yields no vector, nothing changes. Otherwise [..]"
+abbrev pub acknowledgedBy : Requesting → Interrupts → Acknowledged
+acknowledgedBy (By c) i = record { interrupts = given c i; reply = Vector (vectorOf c i) }
+acknowledgedBy Nobody i = record { interrupts = i; reply = PassedOn }
+
+-- "Acknowledge: with IEI not asserted the answer is "held"."
+unfoldable pub acknowledged : Bool → Interrupts → Acknowledged
+acknowledged false i = record { interrupts = i; reply = Held }
+acknowledged true i = acknowledgedBy (highest i) i
+
+-- ---- the image rule's part
+-- "unused bits of 13 [..] zero; pending only where enabled; in-service all zero where S is 0"
+unfoldable pub interruptRule : Interrupts → Bool
+interruptRule i = eqb (i .vector % 8) 0 && eqb (bitAnd (i .pending) (i .enabled)) (i .pending) && (S (i .vector) || eqb (i .service) 0)

@@ -1,0 +1,3 @@
+-- Channels and lines, and the rules of the interrupt controller.
+pub mod Channels
+pub mod Interrupts

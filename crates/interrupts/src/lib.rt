@@ -1,0 +1,264 @@
+// The interrupt controller: four sets of sixteen channels and the vector register, by value. A set
+// is a u16 in which channel c is bit c. The rules stand in specs/Channels.antt and
+// specs/Interrupts.antt. A line number and a channel number are kept apart. Every function is total.
+ghost use mathlib.Core.Path.{_≡_};
+ghost use Prim.Native.Nat.{_<_};
+ghost use Rattle.interrupts.specs.Channels.{setOf, channelOf, half, withHalf};
+ghost use Rattle.interrupts.specs.Interrupts.{kept, S, enabledWritten, pendingWritten, serviceWritten, maskWritten, vectorWritten, clearInterrupts, raised, interruptRule, requests, highest, irq, given, acknowledged};
+
+// The number of a general-purpose line, 0 to 7.
+pub struct Line(pub u8);
+
+// The number of an interrupt channel, 0 to 15.
+pub struct Channel(pub u8);
+
+// The two registers of a set: A holds channels 15 to 8, B channels 7 to 0.
+pub enum Half {
+    A,
+    B,
+}
+
+pub struct Interrupts {
+    pub enabled: u16,
+    pub pending: u16,
+    pub service: u16,
+    pub mask: u16,
+    pub vector: u8,
+}
+
+// The highest requesting channel, if any.
+pub enum Requesting {
+    By(Channel),
+    Nobody,
+}
+
+// What an acknowledge gives.
+pub enum Reply {
+    Vector(u8),
+    PassedOn,
+    Held,
+}
+
+pub struct Acknowledged {
+    pub interrupts: Interrupts,
+    pub reply: Reply,
+}
+
+const CHANNELS: [u8; 8] = [0, 1, 2, 3, 6, 7, 14, 15];
+
+// The channel of a line.
+pub fn channel_of(line: Line) -> Channel
+    ensures { λ r. ⌜ r ≡ channelOf line ⌝ }
+{
+    let at = line.0 as usize;
+    if 8 <= at {
+        return Channel(16);
+    }
+    Channel(CHANNELS[at])
+}
+
+// The set of one channel.
+pub fn set_of(c: Channel) -> u16
+    ensures { λ r. ⌜ r ≡ setOf c ⌝ }
+{
+    let bit = c.0;
+    if 16 <= bit {
+        return 0;
+    }
+    1u16 << bit
+}
+
+// A register of a set.
+pub fn half_of(h: Half, s: u16) -> u8
+    ensures { λ r. ⌜ r ≡ half h s ⌝ }
+{
+    match h {
+        Half::A => (s / 256) as u8,
+        Half::B => (s % 256) as u8,
+    }
+}
+
+// The set with a register stored.
+pub fn with_half(h: Half, s: u16, v: u8) -> u16
+    ensures { λ r. ⌜ r ≡ withHalf h s v ⌝ }
+{
+    match h {
+        Half::A => v as u16 * 256 + s % 256,
+        Half::B => s / 256 * 256 + v as u16,
+    }
+}
+
+// The set with the bits of a register cleared where v is 0.
+fn keep(h: Half, s: u16, v: u8) -> u16
+    ensures { λ r. ⌜ r ≡ kept h s v ⌝ }
+{
+    with_half(h, s, half_of(h, s) & v)
+}
+
+// S of a vector register.
+fn software_end(vector: u8) -> bool
+    ensures { λ r. ⌜ r ≡ S vector ⌝ }
+{
+    vector / 8 % 2 == 1
+}
+
+impl Interrupts {
+    pub fn clear() -> Interrupts
+        ensures { λ r. ⌜ r ≡ clearInterrupts ⌝ }
+    {
+        Interrupts {
+            enabled: 0,
+            pending: 0,
+            service: 0,
+            mask: 0,
+            vector: 0,
+        }
+    }
+
+    pub fn write_enabled(self, h: Half, v: u8) -> Interrupts
+        ensures { λ r. ⌜ r ≡ enabledWritten h v self ⌝ }
+    {
+        let mut i = self;
+        i.enabled = with_half(h, self.enabled, v);
+        i.pending = keep(h, self.pending, v);
+        i
+    }
+
+    pub fn write_pending(self, h: Half, v: u8) -> Interrupts
+        ensures { λ r. ⌜ r ≡ pendingWritten h v self ⌝ }
+    {
+        let mut i = self;
+        i.pending = keep(h, self.pending, v);
+        i
+    }
+
+    pub fn write_service(self, h: Half, v: u8) -> Interrupts
+        ensures { λ r. ⌜ r ≡ serviceWritten h v self ⌝ }
+    {
+        let mut i = self;
+        i.service = keep(h, self.service, v);
+        i
+    }
+
+    pub fn write_mask(self, h: Half, v: u8) -> Interrupts
+        ensures { λ r. ⌜ r ≡ maskWritten h v self ⌝ }
+    {
+        let mut i = self;
+        i.mask = with_half(h, self.mask, v);
+        i
+    }
+
+    pub fn write_vector(self, v: u8) -> Interrupts
+        ensures { λ r. ⌜ r ≡ vectorWritten v self ⌝ }
+    {
+        let mut i = self;
+        i.vector = v / 8 * 8;
+        if software_end(v) {
+            return i;
+        }
+        i.service = 0;
+        i
+    }
+
+    // Raises each channel of a set.
+    pub fn raise(self, s: u16) -> Interrupts
+        ensures { λ r. ⌜ r ≡ raised s self ⌝ }
+    {
+        let mut i = self;
+        i.pending = self.pending | s & self.enabled;
+        i
+    }
+
+    pub fn keeps_rule(self) -> bool
+        ensures { λ r. ⌜ r ≡ interruptRule self ⌝ }
+    {
+        let within = self.pending & self.enabled;
+        if self.vector % 8 != 0 {
+            return false;
+        }
+        if within != self.pending {
+            return false;
+        }
+        if software_end(self.vector) {
+            return true;
+        }
+        self.service == 0
+    }
+
+    // Whether channel c, one of the sixteen, requests.
+    fn asks(self, c: u8) -> bool
+        requires { ⌜ c < 16 ⌝ }
+        ensures { λ r. ⌜ r ≡ requests self c ⌝ }
+    {
+        if (self.pending >> c) % 2 != 1 {
+            return false;
+        }
+        if (self.mask >> c) % 2 != 1 {
+            return false;
+        }
+        self.service < 1u16 << c
+    }
+
+    // The highest requesting channel, by a walk from channel 15 down, which is spared where no
+    // channel is both pending and unmasked.
+    pub fn highest(self) -> Requesting
+        ensures { λ r. ⌜ r ≡ highest self ⌝ }
+    {
+        if self.pending & self.mask == 0 {
+            return Requesting::Nobody;
+        }
+        let mut c: u8 = 16;
+        while 0 < c {
+            c -= 1;
+            if self.asks(c) {
+                return Requesting::By(Channel(c));
+            }
+        }
+        Requesting::Nobody
+    }
+
+    pub fn irq(self) -> bool
+        ensures { λ r. ⌜ r ≡ irq self ⌝ }
+    {
+        let r = self.highest();
+        match r {
+            Requesting::By(_) => true,
+            Requesting::Nobody => false,
+        }
+    }
+
+    // The interrupts once channel c has given its vector.
+    fn give(self, c: Channel) -> Interrupts
+        ensures { λ r. ⌜ r ≡ given c self ⌝ }
+    {
+        let bit = set_of(c);
+        let mut i = self;
+        i.pending = self.pending & 65535 - bit;
+        if software_end(self.vector) {
+            i.service = self.service | bit;
+        }
+        i
+    }
+
+    pub fn acknowledge(self, iei: bool) -> Acknowledged
+        ensures { λ r. ⌜ r ≡ acknowledged iei self ⌝ }
+    {
+        if !iei {
+            return Acknowledged {
+                interrupts: self,
+                reply: Reply::Held,
+            };
+        }
+        let Requesting::By(c) = self.highest() else {
+            return Acknowledged {
+                interrupts: self,
+                reply: Reply::PassedOn,
+            };
+        };
+        let v = self.vector / 16 * 16 + c.0;
+        Acknowledged {
+            interrupts: self.give(c),
+            reply: Reply::Vector(v),
+        }
+    }
+}

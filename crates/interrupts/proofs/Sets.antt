@@ -1,11 +1,11 @@
 -- Sets of channels, bit by bit. Assumes nothing.
 use Prim.Native.Nat.{ℕ, zero, suc, _+_, _-_, _*_, _/_, _%_, _^_, _≤_, _<_}
 use mathlib.Core.Path.{_≡_, refl, sym, ap, ap₂, subst, _∙_}
-use mathlib.Core.Bool.{Bool, true, false, cond, not, _&&_, _||_, true≢false, false≢true}
+use mathlib.Core.Bool.{Bool, true, false, cond, not, _&&_, _||_, Bool·beq, true≢false, false≢true}
 use native.Mathlib.Nat.{mod-lt, mod-eq-of-lt, one-mul, zero-div, div-one, div-add-mod', lt-of-lt-of-le, pow-suc}
 use native.Mathlib.Numerals.{one-add, add-one}
 use native.Mathlib.Omega.{arith}
-use lib.Bits.{bitAnd, bitOr, and-shr, or-shr, and-mod, or-mod}
+use lib.Bits.{bitAnd, bitOr, bitXor, and-shr, or-shr, xor-shr, and-mod, or-mod, xor-mod}
 use lib.Dec.{eqb, ltb, lit<}
 use lib.Pow.{pow-pos, pow-lt, pow-mono, shr-lt, shr-shr}
 use borrow.Author.Tests.{lt-ltb}
@@ -113,3 +113,17 @@ raises·bool false false false false = refl
 
 pub or-and-or : (p e s t : ℕ) → bitOr (bitOr p (bitAnd s e)) (bitAnd t e) ≡ bitOr p (bitAnd (bitOr s t) e)
 or-and-or p e s t = same-set _ _ λ k. simp (has-or, has-and) (raises·bool (has p k) (has e k) (has s k) (has t k))
+
+-- ---- exclusive or
+xor-bit : (p q : ℕ) → p < 2 → q < 2 → eqb (bitXor p q) 1 ≡ not (Bool·beq (eqb p 1) (eqb q 1))
+xor-bit zero zero h k = refl
+xor-bit zero (suc zero) h k = refl
+xor-bit zero (suc (suc q)) h k = absurd (omega arith)
+xor-bit (suc zero) zero h k = refl
+xor-bit (suc zero) (suc zero) h k = refl
+xor-bit (suc zero) (suc (suc q)) h k = absurd (omega arith)
+xor-bit (suc (suc p)) q h k = absurd (omega arith)
+
+pub has-xor : (a b k : ℕ) → has (bitXor a b) k ≡ not (Bool·beq (has a k) (has b k))
+unfolding has
+has-xor a b k = rw (xor-shr a b k, xor-mod (a / 2 ^ k) (b / 2 ^ k) 1) (xor-bit (a / 2 ^ k % 2) (b / 2 ^ k % 2) (bit-lt _) (bit-lt _))

@@ -1,0 +1,107 @@
+-- `Device::clocks` meets its contract, by the law of n clocks of each timer. Assumes nothing.
+use borrow.Author.Needs.{needs}
+use mathlib.Core.Path.{_≡_, refl, sym, ap, ap₂, _∙_}
+use Prim.Native.Nat.{ℕ}
+use mathlib.Core.Bool.{Bool}
+use Rattle.timer.specs.Timers.{clocks, timeouts}
+use Rattle.interrupts.specs.Interrupts.{raised}
+use Rattle.interrupts.specs.declared.Interrupts.{Interrupts}
+use Rattle.device.specs.declared.Timers.{Timers}
+use Rattle.device.specs.declared.Timeouts.{Timeouts}
+use Rattle.device.specs.declared.Device.{Device}
+use Rattle.device.specs.declared.Stepped.{Stepped}
+use Rattle.device.specs.declared.Event.the-variants.{Clocks}
+use Rattle.device.specs.declared.Answer.the-variants.{Done}
+use Rattle.device.specs.Signals.{timeoutChannels}
+use Rattle.device.specs.Clocks.{timeoutsDevice}
+use Rattle.device.specs.Events.{stepOf}
+use Rattle.device.proofs.Clocks.{timersAfter, timeoutsIn, timeouts-each, clocks-each}
+use Rattle.device.proofs.Device.clocks.Statement.{statement}
+use Rattle.device.proofs.Device.clocks.Tie as tie
+
+-- the parts make the step
+built : (d : Device) (n : ℕ) (m : Timeouts) (u : Timers) (i : Interrupts) → m ≡ timeoutsIn n d → u ≡ timersAfter n d → i ≡ raised (timeoutChannels m) (d .interrupts)
+    → _≡_ {A = Stepped} (record { device = record { lines = d .lines; interrupts = i; timers = u }; answer = Done; timeouts = m }) (stepOf d (Clocks n))
+unfolding stepOf
+built d n m u i e f g = λ k. record { device = (made ∙ sym (clocks-each n d)) k; answer = Done; timeouts = counts k }
+  where
+    counts : m ≡ timeoutsDevice n d
+    counts = e ∙ sym (timeouts-each n d)
+
+    made : _≡_ {A = Device} (record { lines = d .lines; interrupts = i; timers = u }) (record { lines = d .lines; interrupts = raised (timeoutChannels (timeoutsDevice n d)) (d .interrupts); timers = timersAfter n d })
+    made = λ k. record { lines = d .lines; interrupts = (g ∙ ap (λ (x : Timeouts). raised (timeoutChannels x) (d .interrupts)) counts) k; timers = f k }
+
+tai-is-active-requires : tie.Need-tai-is-active-requires
+tai-is-active-requires c κs = search needs
+
+tbi-is-active-requires : tie.Need-tbi-is-active-requires
+tbi-is-active-requires c κs = search needs
+
+timeouts-requires : tie.Need-timeouts-requires
+timeouts-requires c κs = search needs
+
+timeouts-requires-2 : tie.Need-timeouts-requires-2
+timeouts-requires-2 c κs = search needs
+
+timeouts-requires-3 : tie.Need-timeouts-requires-3
+timeouts-requires-3 c κs = search needs
+
+timeouts-requires-4 : tie.Need-timeouts-requires-4
+timeouts-requires-4 c κs = search needs
+
+advanced-requires : tie.Need-advanced-requires
+advanced-requires c κs = search needs
+
+advanced-requires-2 : tie.Need-advanced-requires-2
+advanced-requires-2 c κs = search needs
+
+advanced-requires-3 : tie.Need-advanced-requires-3
+advanced-requires-3 c κs = search needs
+
+advanced-requires-4 : tie.Need-advanced-requires-4
+advanced-requires-4 c κs = search needs
+
+channels-requires : tie.Need-channels-requires
+channels-requires c κs = search needs
+
+raise-requires : tie.Need-raise-requires
+raise-requires c κs = search needs
+
+returns : tie.Need-returns
+returns c =
+    let a = c .before .before .before .before .before .before .before .before .before .before .before .before .before .before .before .before .before .before .before .args in
+    let d = a .self in
+    let tai = c .before .before .before .before .before .before .before .before .before .before .before .tai-is-active .ensures in
+    let tbi = c .before .before .before .before .before .before .before .before .before .before .tbi-is-active .ensures in
+    built d (a .n) _ _ _
+    (λ k. record {
+      a = (c .before .before .before .before .before .before .before .before .before .timeouts .ensures ∙ ap (λ (x : Bool). timeouts x (a .n) (d .timers .a)) tai) k;
+      b = (c .before .before .before .before .before .before .before .before .timeouts2 .ensures ∙ ap (λ (x : Bool). timeouts x (a .n) (d .timers .b)) tbi) k;
+      c = c .before .before .before .before .before .before .before .timeouts3 .ensures k;
+      d = c .before .before .before .before .before .before .timeouts4 .ensures k;
+    })
+    (λ k. record {
+      a = (c .before .before .before .before .before .advanced .ensures ∙ ap (λ (x : Bool). clocks x (a .n) (d .timers .a)) tai) k;
+      b = (c .before .before .before .before .advanced2 .ensures ∙ ap (λ (x : Bool). clocks x (a .n) (d .timers .b)) tbi) k;
+      c = c .before .before .before .advanced3 .ensures k;
+      d = c .before .before .advanced4 .ensures k;
+    })
+    (c .raise .ensures ∙ ap (λ (s : ℕ). raised s (d .interrupts)) (c .before .channels .ensures))
+
+pub clocks-spec : {M : Type 1} → statement M
+clocks-spec =
+    tie.close
+    (tie.spec
+    tai-is-active-requires
+    tbi-is-active-requires
+    timeouts-requires
+    timeouts-requires-2
+    timeouts-requires-3
+    timeouts-requires-4
+    advanced-requires
+    advanced-requires-2
+    advanced-requires-3
+    advanced-requires-4
+    channels-requires
+    raise-requires
+    returns)

@@ -1,0 +1,76 @@
+-- The lines that raise their channels, as one set of eight bits. Assumes nothing.
+use Prim.Native.Nat.{ℕ, zero, suc, _+_, _*_, _/_, _%_, _^_, _<_}
+use mathlib.Core.Path.{_≡_, refl, sym, ap, ap₂, _∙_}
+use mathlib.Core.Bool.{Bool, true, false, cond, not, _&&_, _||_, Bool·beq}
+use native.Mathlib.Nat.{one-mul, mod-eq-of-lt}
+use native.Mathlib.Omega.{arith}
+use lib.Bits.{bitAnd, bitOr, bitXor}
+use lib.Dec.{T, eqb, eqb→eq}
+use lib.Pow.{pow-lt}
+use Rattle.timer.specs.Timers.{pulseWidth}
+use Rattle.interrupts.specs.Channels.{has, setOf, channelOf, line, channel}
+use Rattle.interrupts.proofs.Tables.{allBelow, at, same}
+use Rattle.interrupts.proofs.Sets.{has-and, has-xor}
+use Rattle.device.specs.declared.Lines.{Lines}
+use Rattle.device.specs.declared.Timers.{Timers}
+use Rattle.device.specs.Signals.{active, lineActive, becomes, onlyIf, channelsBelow, channelsOf, muted, lineRaises, heard}
+
+-- ---- the channels of a set of lines
+-- the code's sum, at every byte, by one test
+spread : ℕ → ℕ
+spread w = w % 16 + w / 16 % 4 * 64 + w / 64 * 16384
+
+pub spread-is : (w : ℕ) → w < 256 → w % 16 + w / 16 % 4 * 64 + w / 64 * 16384 ≡ channelsOf (has w)
+unfolding spread channelsOf channelsBelow has setOf channelOf
+spread-is w h = eqb→eq _ _ (at 256 (λ (w : ℕ). eqb (spread w) (channelsOf (has w))) tt w h)
+
+-- two properties that agree on the eight lines have the same channels
+below-agree : (n : ℕ) (p q : ℕ → Bool) → ((i : ℕ) → i < n → p i ≡ q i) → channelsBelow n p ≡ channelsBelow n q
+unfolding channelsBelow
+below-agree zero p q h = refl
+below-agree (suc n) p q h =
+    ap₂ (λ (s : ℕ) (b : Bool). bitOr s (onlyIf b (channelOf (line n)))) (below-agree n p q (λ i l. h i (omega arith))) (h n (omega arith))
+
+pub lines-agree : (p q : ℕ → Bool) → ((i : ℕ) → i < 8 → p i ≡ q i) → channelsOf p ≡ channelsOf q
+unfolding channelsOf
+lines-agree p q h = below-agree 8 p q h
+
+-- ---- one line
+has-all : (i : ℕ) → i < 8 → has 255 i ≡ true
+unfolding has
+has-all i h = same _ _ (at 8 (λ (i : ℕ). Bool·beq (has 255 i) true) tt i h)
+
+heard-is : (a b : Bool) (i : ℕ) → i < 8 → has (heard a b) i ≡ not (eqb i 4 && a || eqb i 3 && b)
+unfolding has
+heard-is true true i h = same _ _ (at 8 (λ (i : ℕ). Bool·beq (has 231 i) (not (eqb i 4 && true || eqb i 3 && true))) tt i h)
+heard-is true false i h = same _ _ (at 8 (λ (i : ℕ). Bool·beq (has 239 i) (not (eqb i 4 && true || eqb i 3 && false))) tt i h)
+heard-is false true i h = same _ _ (at 8 (λ (i : ℕ). Bool·beq (has 247 i) (not (eqb i 4 && false || eqb i 3 && true))) tt i h)
+heard-is false false i h = same _ _ (at 8 (λ (i : ℕ). Bool·beq (has 255 i) (not (eqb i 4 && false || eqb i 3 && false))) tt i h)
+
+beq-comm : (a b : Bool) → Bool·beq a b ≡ Bool·beq b a
+beq-comm true true = refl
+beq-comm true false = refl
+beq-comm false true = refl
+beq-comm false false = refl
+
+flip : (b : Bool) → not (Bool·beq b true) ≡ not b
+flip true = refl
+flip false = refl
+
+twice : (b : Bool) → not (not b) ≡ b
+twice true = refl
+twice false = refl
+
+-- a line that was inactive, is active, is an input and is heard
+pub raising : (t : Timers) (before after : Lines) (o : ℕ) → o ≡ heard (pulseWidth (t .a .mode)) (pulseWidth (t .b .mode)) → (i : ℕ) → i < 8
+    → has (bitAnd (bitAnd (bitAnd (bitXor (before .aer) (before .levels)) (bitXor (bitXor (after .aer) (after .levels)) 255)) (bitXor (before .ddr) 255)) o) i
+    ≡ lineRaises t before after i
+unfolding lineRaises lineActive muted
+raising t before after o e i h =
+    rw e
+    (simp (has-and, has-xor, has-all i h)
+    (rw (heard-is (pulseWidth (t .a .mode)) (pulseWidth (t .b .mode)) i h, flip, flip, twice, beq-comm (has (before .aer) i), beq-comm (has (after .aer) i)) refl))
+
+-- ---- the mask of one line
+pub shifted : (i : ℕ) → i < 8 → 1 * 2 ^ i % 256 ≡ 2 ^ i
+shifted i h = rw (one-mul (2 ^ i)) (mod-eq-of-lt (pow-lt h))

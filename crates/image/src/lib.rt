@@ -1,0 +1,229 @@
+// The 32-byte image of a device: load, save, fresh. The layout stands in specs/Image.antt. No
+// function has a `requires` but the private readers, which want a whole image.
+use device::Device;
+use device::Lines;
+use device::Refusal;
+use device::Timers;
+use interrupts::Half;
+use interrupts::Interrupts;
+use timer::Timer;
+ghost use mathlib.Core.Path.{_≡_};
+ghost use Prim.Native.Nat.{_+_, _*_, _<_};
+ghost use lib.ListN.{length};
+ghost use Rattle.interrupts.specs.Channels.{has};
+ghost use Rattle.device.specs.Events.{bit};
+ghost use Rattle.image.specs.Image.{imageBytes, imageOf, linesOf, interruptsOf, timersOf, deviceOf, unusedZero, loadOf, storedOver, savedOf, savedOver, timerAt};
+
+pub const IMAGE_BYTES: usize = 32;
+
+const MARK_0: u8 = 77;
+
+const MARK_1: u8 = 49;
+
+pub enum Loaded {
+    Accepted(Device),
+    Refused(Refusal),
+}
+
+pub enum Saved {
+    Written,
+    NotWritten(Refusal),
+}
+
+// A set of channels from its registers A and B.
+fn pair(a: u8, b: u8) -> u16
+    ensures { λ r. ⌜ r ≡ a * 256 + b ⌝ }
+{
+    a as u16 * 256 + b as u16
+}
+
+fn bit_at(b: u8, k: u8) -> bool
+    requires { ⌜ k < 8 ⌝ }
+    ensures { λ r. ⌜ r ≡ has b k ⌝ }
+{
+    (b >> k) % 2 == 1
+}
+
+fn lines_of(image: &[u8]) -> Lines
+    requires { ⌜ length (now image) ≡ imageBytes ⌝ }
+    ensures { λ r. ⌜ r ≡ linesOf (now (image .entry)) ⌝ }
+{
+    let inputs = image[31];
+    Lines {
+        gpdr: image[2],
+        aer: image[3],
+        ddr: image[4],
+        levels: image[30],
+        tai: bit_at(inputs, 0),
+        tbi: bit_at(inputs, 1),
+    }
+}
+
+fn interrupts_of(image: &[u8]) -> Interrupts
+    requires { ⌜ length (now image) ≡ imageBytes ⌝ }
+    ensures { λ r. ⌜ r ≡ interruptsOf (now (image .entry)) ⌝ }
+{
+    Interrupts {
+        enabled: pair(image[5], image[6]),
+        pending: pair(image[7], image[8]),
+        service: pair(image[9], image[10]),
+        mask: pair(image[11], image[12]),
+        vector: image[13],
+    }
+}
+
+// The timer whose data value stands at byte `at`, with this mode and output.
+fn timer_at(image: &[u8], at: usize, mode: u8, output: bool) -> Timer
+    requires { ⌜ length (now image) ≡ imageBytes ⌝ }
+    requires { ⌜ at < 21 ⌝ }
+    ensures { λ r. ⌜ r ≡ timerAt (now (image .entry)) at mode output ⌝ }
+{
+    Timer {
+        mode: mode,
+        reload: image[at],
+        counter: image[at + 4],
+        position: image[at + 8],
+        output: output,
+    }
+}
+
+fn timers_of(image: &[u8]) -> Timers
+    requires { ⌜ length (now image) ≡ imageBytes ⌝ }
+    ensures { λ r. ⌜ r ≡ timersOf (now (image .entry)) ⌝ }
+{
+    let tcdcr = image[16];
+    let outputs = image[29];
+    Timers {
+        a: timer_at(image, 17, image[14], bit_at(outputs, 0)),
+        b: timer_at(image, 18, image[15], bit_at(outputs, 1)),
+        c: timer_at(image, 19, tcdcr / 16 % 8, bit_at(outputs, 2)),
+        d: timer_at(image, 20, tcdcr % 8, bit_at(outputs, 3)),
+    }
+}
+
+// Whether the unused bits of bytes 16, 29 and 31 are zero.
+fn is_unused_zero(image: &[u8]) -> bool
+    requires { ⌜ length (now image) ≡ imageBytes ⌝ }
+    ensures { λ r. ⌜ r ≡ unusedZero (now (image .entry)) ⌝ }
+{
+    if 128 <= image[16] {
+        return false;
+    }
+    if image[16] / 8 % 2 != 0 {
+        return false;
+    }
+    if 16 <= image[29] {
+        return false;
+    }
+    image[31] < 4
+}
+
+// The device of an image, or refusal 1, 2 or 3.
+pub fn load(image: &[u8]) -> Loaded
+    ensures { λ r. ⌜ r ≡ loadOf (now (image .entry)) ⌝ }
+{
+    if image.len() != IMAGE_BYTES {
+        return Loaded::Refused(Refusal::ImageLength);
+    }
+    if image[0] != MARK_0 {
+        return Loaded::Refused(Refusal::ImageMark);
+    }
+    if image[1] != MARK_1 {
+        return Loaded::Refused(Refusal::ImageMark);
+    }
+    if !is_unused_zero(image) {
+        return Loaded::Refused(Refusal::ImageRule);
+    }
+    let d = Device {
+        lines: lines_of(image),
+        interrupts: interrupts_of(image),
+        timers: timers_of(image),
+    };
+    if !d.keeps_rule() {
+        return Loaded::Refused(Refusal::ImageRule);
+    }
+    Loaded::Accepted(d)
+}
+
+// The bytes of a device.
+fn bytes_of(d: Device) -> [u8; 32]
+    ensures { λ r. ⌜ r ≡ imageOf d ⌝ }
+{
+    let l = d.lines;
+    let i = d.interrupts;
+    let t = d.timers;
+    [
+        MARK_0,
+        MARK_1,
+        l.gpdr,
+        l.aer,
+        l.ddr,
+        interrupts::half_of(Half::A, i.enabled),
+        interrupts::half_of(Half::B, i.enabled),
+        interrupts::half_of(Half::A, i.pending),
+        interrupts::half_of(Half::B, i.pending),
+        interrupts::half_of(Half::A, i.service),
+        interrupts::half_of(Half::B, i.service),
+        interrupts::half_of(Half::A, i.mask),
+        interrupts::half_of(Half::B, i.mask),
+        i.vector,
+        t.a.mode,
+        t.b.mode,
+        t.c.mode % 8 * 16 + t.d.mode % 8,
+        t.a.reload,
+        t.b.reload,
+        t.c.reload,
+        t.d.reload,
+        t.a.counter,
+        t.b.counter,
+        t.c.counter,
+        t.d.counter,
+        t.a.position,
+        t.b.position,
+        t.c.position,
+        t.d.position,
+        d.outputs(),
+        l.levels,
+        inputs_of(l),
+    ]
+}
+
+// TAI bit 0, TBI bit 1.
+fn inputs_of(l: Lines) -> u8
+    ensures { λ r. ⌜ r ≡ bit (l .tai) 1 + bit (l .tbi) 2 ⌝ }
+{
+    if l.tai {
+        if l.tbi {
+            return 3;
+        }
+        return 1;
+    }
+    if l.tbi {
+        return 2;
+    }
+    0
+}
+
+// Writes a device over a buffer of an image's length; leaves any other buffer as it came.
+pub fn store(d: Device, image: &mut [u8])
+    ensures { λ _. ⌜ now (image .exit) ≡ storedOver d (now (image .entry)) ⌝ }
+{
+    if image.len() == IMAGE_BYTES {
+        let b = bytes_of(d);
+        bytes::copy(&b, image);
+    }
+}
+
+// Saves a device record: refusal 1 for the buffer's length, then 3 for the record.
+pub fn save(d: Device, image: &mut [u8]) -> Saved
+    ensures { λ r. ⌜ (r ≡ savedOf d (now (image .entry))) × (now (image .exit) ≡ savedOver d (now (image .entry))) ⌝ }
+{
+    if image.len() != IMAGE_BYTES {
+        return Saved::NotWritten(Refusal::ImageLength);
+    }
+    if !d.keeps_rule() {
+        return Saved::NotWritten(Refusal::ImageRule);
+    }
+    store(d, image);
+    Saved::Written
+}

@@ -1,0 +1,17 @@
+-- The C face: the image of a fresh device, written over a buffer.
+use Prim.Native.Nat.{ℕ}
+use mathlib.Core.Bool.{cond}
+use mathlib.Core.List.{List}
+use lib.Dec.{eqb}
+use lib.ListN.{length}
+use Rattle.device.specs.declared.Refusal.the-variants.{ImageLength}
+use Rattle.device.specs.Events.{freshDevice, numberOf}
+use Rattle.image.specs.Image.{imageBytes, storedOver}
+
+-- "1: image buffer is not 32 bytes", else 0
+unfoldable pub freshResult : List ℕ → ℕ
+freshResult b = cond (eqb (length b) imageBytes) 0 (numberOf ImageLength)
+
+-- "A fresh device is all zero.", as an image
+unfoldable pub freshOver : List ℕ → List ℕ
+freshOver b = storedOver freshDevice b

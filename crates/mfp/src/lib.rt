@@ -1,0 +1,27 @@
+// The C face: thin calls on lent byte buffers, and nothing else. host/include/mfp.h declares them.
+use device::Device;
+ghost use mathlib.Core.Path.{_≡_};
+ghost use Rattle.tape.specs.Runs.{resultOf, imageAfter, answersAfter};
+ghost use Rattle.mfp.specs.Calls.{freshResult, freshOver};
+
+// Runs a tape on the device of an image: 0, or 256 × index of the bad record + the refusal's number.
+#[no_mangle]
+pub extern "C" fn mfp_run(image: &mut [u8], tape: &[u8], answers: &mut [u8]) -> u32
+    ensures { λ r. ⌜ (r ≡ resultOf (now (image .entry)) (now (tape .entry)) (now (answers .entry)))
+        × (now (image .exit) ≡ imageAfter (now (image .entry)) (now (tape .entry)) (now (answers .entry)))
+        × (now (answers .exit) ≡ answersAfter (now (image .entry)) (now (tape .entry)) (now (answers .entry))) ⌝ }
+{
+    tape::run(image, tape, answers)
+}
+
+// Writes the image of a fresh device: 0, or 1 where the buffer is not of an image's length.
+#[no_mangle]
+pub extern "C" fn mfp_fresh(image: &mut [u8]) -> u32
+    ensures { λ r. ⌜ (r ≡ freshResult (now (image .entry))) × (now (image .exit) ≡ freshOver (now (image .entry))) ⌝ }
+{
+    if image.len() != image::IMAGE_BYTES {
+        return 1;
+    }
+    image::store(Device::fresh(), image);
+    0
+}

@@ -1,0 +1,46 @@
+-- One record more or less of a tape: what the check and the run do with it. Assumes nothing.
+use Prim.Native.Nat.{ℕ, zero, suc, _+_, _-_, _*_, _≤_, _<_}
+use mathlib.Core.Path.{_≡_, refl, sym, ap, ap₂, _∙_}
+use mathlib.Core.List.{List, [], _∷_}
+use native.Mathlib.Omega.{arith}
+use lib.Arith.{lt-of-le-ne}
+use Rattle.device.specs.declared.Event.{Event}
+use Rattle.device.specs.declared.Refusal.{Refusal}
+use Rattle.tape.specs.declared.Decoded.{Decoded}
+use Rattle.tape.specs.declared.Decoded.the-variants.{Valid, Invalid}
+use Rattle.tape.specs.declared.Checked.{Checked}
+use Rattle.tape.specs.declared.Checked.the-variants.{Fine, Bad}
+use Rattle.tape.specs.Records.{decoded, firstBad·at, firstBad, events·at, events}
+
+module _ (tape : List ℕ) (i n : ℕ) (h : i < n) where
+  more : n - i ≡ suc (n - (i + 1))
+  more = omega arith
+
+  -- the check at the i-th of n records
+  check-at : firstBad tape i (n - i) ≡ firstBad·at (decoded tape (i * 8)) i (firstBad tape (i + 1) (n - (i + 1)))
+  unfolding firstBad
+  check-at = ap (firstBad tape i) more
+
+  pub check-bad : (r : Refusal) → decoded tape (i * 8) ≡ Invalid r → firstBad tape i (n - i) ≡ Bad r i
+  check-bad r e = check-at ∙ ap (λ (d : Decoded). firstBad·at d i (firstBad tape (i + 1) (n - (i + 1)))) e
+
+  pub check-valid : (e : Event) → decoded tape (i * 8) ≡ Valid e → firstBad tape i (n - i) ≡ firstBad tape (i + 1) (n - (i + 1))
+  check-valid e p = check-at ∙ ap (λ (d : Decoded). firstBad·at d i (firstBad tape (i + 1) (n - (i + 1)))) p
+
+  -- and its event
+  pub event-valid : (e : Event) → decoded tape (i * 8) ≡ Valid e → events tape i (n - i) ≡ e ∷ events tape (i + 1) (n - (i + 1))
+  unfolding events
+  event-valid e p = ap (events tape i) more ∙ ap (λ (d : Decoded). events·at d (events tape (i + 1) (n - (i + 1)))) p
+
+-- past the last record
+pub check-none : (tape : List ℕ) (i : ℕ) → firstBad tape i 0 ≡ Fine
+unfolding firstBad
+check-none tape i = refl
+
+pub events-none : (tape : List ℕ) (i : ℕ) → events tape i 0 ≡ []
+unfolding events
+events-none tape i = refl
+
+-- ---- a number that is at least k and not k, as the rest of a `match` has it
+pub past : {n k : ℕ} → k ≤ n → (n ≡ k → ⊥) → suc k ≤ n
+past h f = lt-of-le-ne h (λ e. f (sym e))

@@ -1,0 +1,70 @@
+-- `tape::check_records` meets its contract. The loop's invariant: the check of all is that of the records from i on.
+-- The measure is how many are left. Assumes nothing.
+use Prim.Native.Nat.{ℕ, _-_, _*_, _≤_}
+use mathlib.Core.Path.{_≡_, refl, sym, ap, ap₂, _∙_}
+use native.Mathlib.Omega.{arith}
+use borrow.Author.Needs.{needs}
+use Rattle.tape.specs.Records.{firstBad}
+use Rattle.tape.proofs.Tapes.{check-bad, check-valid, check-none}
+use Rattle.tape.proofs.check_records.Statement.{statement}
+use Rattle.tape.proofs.check_records.Tie as tie
+
+abbrev Inv-loop : tie.InvT-loop
+Inv-loop tape n i₀ i = (i ≤ n) × (firstBad tape i (n - i) ≡ firstBad tape 0 n)
+
+abbrev μ-loop : tie.MeasureT-loop
+μ-loop tape n i₀ i = n - i
+
+loop-holds : tie.Need-loop-holds Inv-loop μ-loop
+loop-holds c = (omega arith, ap (firstBad (c .before .args .tape .now) 0) (omega arith))
+
+mul-decode : tie.Need-mul-decode Inv-loop μ-loop
+mul-decode c = omega arith
+
+decode-requires : tie.Need-decode-requires Inv-loop μ-loop
+decode-requires c κs = omega arith
+
+enum-known-d : tie.Need-enum-known-d Inv-loop μ-loop
+enum-known-d c = search needs
+
+returns : tie.Need-returns Inv-loop μ-loop
+returns c =
+    let a = c .before .before .before .before .before .before .before .args in
+    sym (check-bad (a .tape .now) (c .before .before .before .before .before .loop .i) (a .n) (c .before .before .before .before .loop-test .taken) _ (sym (c .before .before .before .decode .ensures) ∙ c .before .d .given .1)) ∙ c .before .before .before .before .before .loop .inv .1
+
+enum-told : tie.Need-enum-told Inv-loop μ-loop
+enum-told c = search needs
+
+add-i : tie.Need-add-i Inv-loop μ-loop
+add-i c = omega arith
+
+loop-less : tie.Need-loop-less Inv-loop μ-loop
+loop-less c = omega arith
+
+loop-again : tie.Need-loop-again Inv-loop μ-loop
+loop-again c =
+    let a = c .before .before .before .before .before .before .args in
+    (omega arith, sym (check-valid (a .tape .now) (c .before .before .before .before .loop .i) (a .n) (c .before .before .before .loop-test .taken) _ (sym (c .before .before .decode .ensures) ∙ c .enum-told .given .1)) ∙ c .before .before .before .before .loop .inv .1)
+
+returns-2 : tie.Need-returns-2 Inv-loop μ-loop
+returns-2 c =
+    let a = c .before .before .before .args in
+    let z : a .n - c .before .loop .i ≡ 0 = omega arith in
+    sym (check-none (a .tape .now) (c .before .loop .i)) ∙ ap (firstBad (a .tape .now) (c .before .loop .i)) (sym z) ∙ c .before .loop .inv .1
+
+pub check-records-spec : {M : Type 1} → statement M
+check-records-spec =
+    tie.close
+    (tie.spec
+    Inv-loop
+    μ-loop
+    loop-holds
+    mul-decode
+    decode-requires
+    enum-known-d
+    returns
+    enum-told
+    add-i
+    loop-less
+    loop-again
+    returns-2)

@@ -1,0 +1,96 @@
+-- `tape::decode` meets its contract: the mark, then the event. Assumes nothing.
+use borrow.Author.Needs.{needs}
+use mathlib.Core.Path.{_≡_, refl, sym, ap, ap₂, _∙_}
+use Prim.Native.Nat.{ℕ}
+use borrow.Author.Tests.{eq-eqb, ne-eqb}
+use Rattle.tape.specs.Records.{eventOf, decoded}
+use Rattle.tape.proofs.decode.Statement.{statement}
+use Rattle.tape.proofs.decode.Tie as tie
+
+shared-slice-read-if1 : tie.Need-shared-slice-read-if1
+shared-slice-read-if1 c = search needs
+
+returns : tie.Need-returns
+unfolding decoded
+returns c = simp (ne-eqb _ _ (c .if1 .taken))
+
+add-if2 : tie.Need-add-if2
+add-if2 c = search needs
+
+shared-slice-read-if2 : tie.Need-shared-slice-read-if2
+shared-slice-read-if2 c = search needs
+
+returns-2 : tie.Need-returns-2
+unfolding decoded
+returns-2 c = rw (eq-eqb _ _ (c .before .before .if1 .left), ne-eqb _ _ (c .if2 .taken)) refl
+
+add-number-of : tie.Need-add-number-of
+add-number-of c = search needs
+
+shared-slice-read-number-of : tie.Need-shared-slice-read-number-of
+shared-slice-read-number-of c = search needs
+
+add-number-of-2 : tie.Need-add-number-of-2
+add-number-of-2 c = search needs
+
+shared-slice-read-number-of-2 : tie.Need-shared-slice-read-number-of-2
+shared-slice-read-number-of-2 c = search needs
+
+add-number-of-3 : tie.Need-add-number-of-3
+add-number-of-3 c = search needs
+
+shared-slice-read-number-of-3 : tie.Need-shared-slice-read-number-of-3
+shared-slice-read-number-of-3 c = search needs
+
+add-number-of-4 : tie.Need-add-number-of-4
+add-number-of-4 c = search needs
+
+shared-slice-read-number-of-4 : tie.Need-shared-slice-read-number-of-4
+shared-slice-read-number-of-4 c = search needs
+
+number-of-requires : tie.Need-number-of-requires
+number-of-requires c κs = search needs
+
+add-event-of : tie.Need-add-event-of
+add-event-of c = search needs
+
+shared-slice-read-event-of : tie.Need-shared-slice-read-event-of
+shared-slice-read-event-of c = search needs
+
+add-event-of-2 : tie.Need-add-event-of-2
+add-event-of-2 c = search needs
+
+shared-slice-read-event-of-2 : tie.Need-shared-slice-read-event-of-2
+shared-slice-read-event-of-2 c = search needs
+
+event-of-requires : tie.Need-event-of-requires
+event-of-requires c κs = search needs
+
+returns-3 : tie.Need-returns-3
+unfolding decoded
+returns-3 c = rw (eq-eqb _ _ (c .before .before .before .before .before .before .before .before .before .before .if1 .left), eq-eqb _ _ (c .before .before .before .before .before .before .before .before .if2 .left)) (c .event-of .ensures ∙ ap (eventOf _ _) (c .before .before .before .number-of .ensures))
+
+pub decode-spec : {M : Type 1} → statement M
+decode-spec =
+    tie.close
+    (tie.spec
+    shared-slice-read-if1
+    returns
+    add-if2
+    shared-slice-read-if2
+    returns-2
+    add-number-of
+    shared-slice-read-number-of
+    add-number-of-2
+    shared-slice-read-number-of-2
+    add-number-of-3
+    shared-slice-read-number-of-3
+    add-number-of-4
+    shared-slice-read-number-of-4
+    number-of-requires
+    add-event-of
+    shared-slice-read-event-of
+    add-event-of-2
+    shared-slice-read-event-of-2
+    event-of-requires
+    returns-3)

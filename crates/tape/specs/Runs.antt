@@ -1,0 +1,69 @@
+-- Document 01, "Tape and answers": a whole run, and the refusals in their order.
+use Prim.Native.Nat.{ℕ, _+_, _*_, _%_}
+use mathlib.Core.Bool.{Bool, true, false, cond, _&&_}
+use mathlib.Core.List.{List, [], _∷_, _++_}
+use lib.Dec.{leb, eqb}
+use lib.ListN.{length, drop}
+use Rattle.device.specs.declared.Device.{Device}
+use Rattle.device.specs.declared.Event.{Event}
+use Rattle.device.specs.declared.Refusal.{Refusal}
+use Rattle.device.specs.declared.Refusal.the-variants.{TapeLength, AnswerLength}
+use Rattle.device.specs.Events.{stepOf, numberOf}
+use Rattle.image.specs.Image.{imageOf, deviceOf, loadOf}
+use Rattle.image.specs.declared.Loaded.{Loaded}
+use Rattle.image.specs.declared.Loaded.the-variants.{Accepted, Refused}
+use Rattle.tape.specs.declared.Checked.{Checked}
+use Rattle.tape.specs.declared.Checked.the-variants.{Fine, Bad}
+use Rattle.tape.specs.Records.{recordBytes, records, firstBad, eventsOf}
+use Rattle.tape.specs.Answers.{answerBytes, answerOf}
+
+-- ---- events one after the other
+unfoldable pub runOf : Device → List Event → Device
+runOf d [] = d
+runOf d (e ∷ es) = runOf (stepOf d e .device) es
+
+-- their answers
+unfoldable pub answersOf : Device → List Event → List ℕ
+answersOf d [] = []
+answersOf d (e ∷ es) = answerOf (stepOf d e) ++ answersOf (stepOf d e .device) es
+
+-- ---- the refusals
+-- "4: tape length not a multiple of 8, or above 4,096"
+abbrev pub tapeMost : ℕ
+tapeMost = 4096
+
+unfoldable pub fitting : List ℕ → Bool
+fitting tape = eqb (length tape % recordBytes) 0 && leb (length tape) tapeMost
+
+-- "The C call returns 0, or 256 × index of the bad record (0 for 1 to 4 and 9) + number."
+abbrev pub code : Refusal → ℕ → ℕ
+code r i = 256 * i + numberOf r
+
+-- "9: answer buffer shorter than 22 × records", after all records
+abbrev pub afterRecords : Checked → ℕ → ℕ → ℕ
+afterRecords (Bad r i) n room = code r i
+afterRecords Fine n room = cond (leb (answerBytes * n) room) 0 (code AnswerLength 0)
+
+-- of a tape alone: 4, then 5 to 8, then 9
+unfoldable pub tapeResult : List ℕ → ℕ → ℕ
+tapeResult tape room = cond (fitting tape) (afterRecords (firstBad tape 0 (records tape)) (records tape) room) (code TapeLength 0)
+
+-- "Checks run 1 to 4, then 5 to 8 for each record in tape order, then 9."
+abbrev pub afterImage : Loaded → List ℕ → ℕ → ℕ
+afterImage (Refused r) tape room = code r 0
+afterImage (Accepted d) tape room = tapeResult tape room
+
+-- what the C call returns for an image, a tape and an answer buffer
+unfoldable pub resultOf : List ℕ → List ℕ → List ℕ → ℕ
+resultOf image tape answers = afterImage (loadOf image) tape (length answers)
+
+-- ---- the buffers at exit
+-- "Every refusal leaves image [..] and answer buffer unchanged. Success writes the image and the first 22 × records answer bytes only."
+unfoldable pub imageAfter : List ℕ → List ℕ → List ℕ → List ℕ
+imageAfter image tape answers = cond (eqb (resultOf image tape answers) 0) (imageOf (runOf (deviceOf image) (eventsOf tape))) image
+
+unfoldable pub answersAfter : List ℕ → List ℕ → List ℕ → List ℕ
+answersAfter image tape answers =
+    cond (eqb (resultOf image tape answers) 0)
+    (answersOf (deviceOf image) (eventsOf tape) ++ drop (answerBytes * records tape) answers)
+    answers

@@ -1,0 +1,332 @@
+// The tape: its records decoded into events or refusals, its answers as bytes, the whole check in
+// the paper's order, and the run. The rules stand in specs/. Everything is checked before anything
+// is run, by the decoder that the run uses.
+use device::Device;
+use device::Event;
+use device::Refusal;
+use device::Register;
+use device::Stepped;
+use device::TimerInput;
+use image::Loaded;
+use interrupts::Channel;
+use interrupts::Half;
+use interrupts::Line;
+ghost use mathlib.Core.Path.{_≡_};
+ghost use mathlib.Core.Bool.{_&&_};
+ghost use mathlib.Core.List.{_++_};
+ghost use Prim.Native.Nat.{_+_, _*_, _≤_, _<_};
+ghost use lib.ListN.{length, take, drop};
+ghost use Rattle.device.specs.Events.{stepOf, bit};
+ghost use Rattle.tape.specs.Records.{recordBytes, registerOf, reading, writing, inputOf, inRange, eventOf, number, decoded, records, firstBad, events, eventsOf};
+ghost use Rattle.tape.specs.Answers.{answerBytes, answerOf};
+ghost use Rattle.tape.specs.Runs.{runOf, answersOf, code, tapeResult, resultOf, imageAfter, answersAfter};
+
+pub const RECORD_BYTES: usize = 8;
+
+pub const ANSWER_BYTES: usize = 22;
+
+pub const TAPE_MOST: usize = 4096;
+
+const MARK_0: u8 = 77;
+
+const RECORD_MARK_1: u8 = 69;
+
+const ANSWER_MARK_1: u8 = 65;
+
+// What a register select names.
+pub enum Selected {
+    Known(Register),
+    SerialPort,
+}
+
+// What a record means.
+pub enum Decoded {
+    Valid(Event),
+    Invalid(Refusal),
+}
+
+// What the check of a tape's records finds: nothing, or the first refusal and its record's index.
+pub enum Checked {
+    Fine,
+    Bad(Refusal, usize),
+}
+
+// ---- records
+
+pub fn register_of(rs: u8) -> Selected
+    ensures { λ r. ⌜ r ≡ registerOf rs ⌝ }
+{
+    match rs {
+        0 => Selected::Known(Register::Gpdr),
+        1 => Selected::Known(Register::Aer),
+        2 => Selected::Known(Register::Ddr),
+        3 => Selected::Known(Register::Ier(Half::A)),
+        4 => Selected::Known(Register::Ier(Half::B)),
+        5 => Selected::Known(Register::Ipr(Half::A)),
+        6 => Selected::Known(Register::Ipr(Half::B)),
+        7 => Selected::Known(Register::Isr(Half::A)),
+        8 => Selected::Known(Register::Isr(Half::B)),
+        9 => Selected::Known(Register::Imr(Half::A)),
+        10 => Selected::Known(Register::Imr(Half::B)),
+        11 => Selected::Known(Register::Vr),
+        12 => Selected::Known(Register::Tacr),
+        13 => Selected::Known(Register::Tbcr),
+        14 => Selected::Known(Register::Tcdcr),
+        15 => Selected::Known(Register::Tadr),
+        16 => Selected::Known(Register::Tbdr),
+        17 => Selected::Known(Register::Tcdr),
+        18 => Selected::Known(Register::Tddr),
+        _ => Selected::SerialPort,
+    }
+}
+
+fn read_of(rs: u8) -> Decoded
+    ensures { λ r. ⌜ r ≡ reading (registerOf rs) ⌝ }
+{
+    let s = register_of(rs);
+    match s {
+        Selected::Known(r) => Decoded::Valid(Event::Read(r)),
+        Selected::SerialPort => Decoded::Invalid(Refusal::Serial),
+    }
+}
+
+fn write_of(rs: u8, v: u8) -> Decoded
+    ensures { λ r. ⌜ r ≡ writing (registerOf rs) v ⌝ }
+{
+    let s = register_of(rs);
+    match s {
+        Selected::Known(r) => Decoded::Valid(Event::Write(r, v)),
+        Selected::SerialPort => Decoded::Invalid(Refusal::Serial),
+    }
+}
+
+// The input of number a, 0 or 1.
+fn input_of(a: u8) -> TimerInput
+    ensures { λ r. ⌜ r ≡ inputOf a ⌝ }
+{
+    if a == 0 {
+        return TimerInput::Tai;
+    }
+    TimerInput::Tbi
+}
+
+fn both(a: bool, b: bool) -> bool
+    ensures { λ r. ⌜ r ≡ (a && b) ⌝ }
+{
+    if a {
+        return b;
+    }
+    false
+}
+
+// What the record means if its operands are in range, else refusal 7.
+fn in_range(t: bool, d: Decoded) -> Decoded
+    ensures { λ r. ⌜ r ≡ inRange t d ⌝ }
+{
+    if t {
+        return d;
+    }
+    Decoded::Invalid(Refusal::Operand)
+}
+
+// The event of a record's kind and operands, or refusal 6, 7 or 8.
+pub fn event_of(kind: u8, a: u8, n: u32) -> Decoded
+    ensures { λ r. ⌜ r ≡ eventOf kind a n ⌝ }
+{
+    match kind {
+        0 => in_range(both(a == 0, n == 0), Decoded::Valid(Event::Reset)),
+        1 => in_range(both(a <= 23, n == 0), read_of(a)),
+        2 => in_range(both(a <= 23, n <= 255), write_of(a, (n % 256) as u8)),
+        3 => in_range(
+            both(a <= 7, n <= 1),
+            Decoded::Valid(Event::Level(Line(a), n == 1)),
+        ),
+        4 => in_range(
+            both(a <= 1, n <= 1),
+            Decoded::Valid(Event::Input(input_of(a), n == 1)),
+        ),
+        5 => in_range(a == 0, Decoded::Valid(Event::Clocks(n))),
+        6 => in_range(
+            both(a <= 1, n == 0),
+            Decoded::Valid(Event::Acknowledge(a == 1)),
+        ),
+        7 => in_range(
+            both(both(9 <= a, a <= 12), n == 0),
+            Decoded::Valid(Event::Raise(Channel(a))),
+        ),
+        _ => Decoded::Invalid(Refusal::Kind),
+    }
+}
+
+// A number from its four bytes, high byte first.
+fn number_of(p: u8, q: u8, r: u8, s: u8) -> u32
+    ensures { λ v. ⌜ v ≡ number p q r s ⌝ }
+{
+    p as u32 * 16777216 + q as u32 * 65536 + r as u32 * 256 + s as u32
+}
+
+// What the record that starts at byte `at` means.
+fn decode(tape: &[u8], at: usize) -> Decoded
+    requires { ⌜ at + 8 ≤ length (now tape) ⌝ }
+    ensures { λ r. ⌜ r ≡ decoded (now (tape .entry)) at ⌝ }
+{
+    if tape[at] != MARK_0 {
+        return Decoded::Invalid(Refusal::RecordMark);
+    }
+    if tape[at + 1] != RECORD_MARK_1 {
+        return Decoded::Invalid(Refusal::RecordMark);
+    }
+    let n = number_of(tape[at + 4], tape[at + 5], tape[at + 6], tape[at + 7]);
+    event_of(tape[at + 2], tape[at + 3], n)
+}
+
+// ---- the check of all records
+
+fn check_records(tape: &[u8], n: usize) -> Checked
+    requires { ⌜ n * 8 ≤ length (now tape) ⌝ }
+    ensures { λ r. ⌜ r ≡ firstBad (now (tape .entry)) 0 n ⌝ }
+{
+    let mut i = 0;
+    while i < n {
+        let d = decode(tape, i * 8);
+        if let Decoded::Invalid(r) = d {
+            return Checked::Bad(r, i);
+        }
+        i += 1;
+    }
+    Checked::Fine
+}
+
+// ---- answers
+
+fn byte_if(b: bool) -> u8
+    ensures { λ r. ⌜ r ≡ bit b 1 ⌝ }
+{
+    if b {
+        return 1;
+    }
+    0
+}
+
+// The 22 bytes of an answer.
+fn answer_bytes(s: Stepped) -> [u8; 22]
+    ensures { λ r. ⌜ r ≡ answerOf s ⌝ }
+{
+    let d = s.device;
+    let a = s.answer;
+    let n = s.timeouts;
+    [
+        MARK_0,
+        ANSWER_MARK_1,
+        device::class_of(a),
+        device::value_of(a),
+        byte_if(d.irq()),
+        d.outputs(),
+        (n.a / 16777216 % 256) as u8,
+        (n.a / 65536 % 256) as u8,
+        (n.a / 256 % 256) as u8,
+        (n.a % 256) as u8,
+        (n.b / 16777216 % 256) as u8,
+        (n.b / 65536 % 256) as u8,
+        (n.b / 256 % 256) as u8,
+        (n.b % 256) as u8,
+        (n.c / 16777216 % 256) as u8,
+        (n.c / 65536 % 256) as u8,
+        (n.c / 256 % 256) as u8,
+        (n.c % 256) as u8,
+        (n.d / 16777216 % 256) as u8,
+        (n.d / 65536 % 256) as u8,
+        (n.d / 256 % 256) as u8,
+        (n.d % 256) as u8,
+    ]
+}
+
+// Writes an answer at byte `at` and leaves every other byte.
+fn put_answer(s: Stepped, answers: &mut [u8], at: usize)
+    requires { ⌜ at + 22 ≤ length (now answers) ⌝ }
+    ensures { λ _. ⌜ now (answers .exit) ≡ take at (now (answers .entry)) ++ answerOf s ++ drop (at + 22) (now (answers .entry)) ⌝ }
+{
+    let b = answer_bytes(s);
+    let end = at + 22;
+    bytes::copy(&b, &mut answers[at..end]);
+}
+
+// ---- the check of a whole tape
+
+// The number of a refusal of record i.
+fn coded(r: Refusal, i: usize) -> u32
+    requires { ⌜ i < 512 ⌝ }
+    ensures { λ c. ⌜ c ≡ code r i ⌝ }
+{
+    256 * (i as u32) + device::number_of(r) as u32
+}
+
+// 0, or the refusal of a tape whose answers have `room` bytes: 4, 5 to 8, 9.
+pub fn check(tape: &[u8], room: usize) -> u32
+    ensures { λ r. ⌜ r ≡ tapeResult (now (tape .entry)) room ⌝ }
+{
+    if tape.len() % RECORD_BYTES != 0 {
+        return coded(Refusal::TapeLength, 0);
+    }
+    if TAPE_MOST < tape.len() {
+        return coded(Refusal::TapeLength, 0);
+    }
+    let n = tape.len() / RECORD_BYTES;
+    let c = check_records(tape, n);
+    match c {
+        Checked::Bad(r, i) => coded(r, i),
+        Checked::Fine => {
+            if ANSWER_BYTES * n <= room {
+                return 0;
+            }
+            coded(Refusal::AnswerLength, 0)
+        }
+    }
+}
+
+// ---- the run
+
+// Runs the n records of a checked tape from device d, and writes their answers.
+fn run_records(d: Device, tape: &[u8], answers: &mut [u8], n: usize) -> Device
+    requires { ⌜ n * 8 ≤ length (now tape) ⌝ }
+    requires { ⌜ n * 22 ≤ length (now answers) ⌝ }
+    requires { ⌜ firstBad (now tape) 0 n ≡ Checked.Fine ⌝ }
+    ensures { λ r. ⌜ (r ≡ runOf d (events (now (tape .entry)) 0 n)) × (now (answers .exit) ≡ answersOf d (events (now (tape .entry)) 0 n) ++ drop (n * 22) (now (answers .entry))) ⌝ }
+{
+    let mut at = d;
+    let mut i = 0;
+    while i < n {
+        let x = decode(tape, i * RECORD_BYTES);
+        let Decoded::Valid(e) = x else {
+            return d;
+        };
+        let s = at.step(e);
+        put_answer(s, answers, i * ANSWER_BYTES);
+        at = s.device;
+        i += 1;
+    }
+    at
+}
+
+// The whole call: checks everything, then runs the tape from the image's device, writes the answers
+// and the image, and returns 0; or returns a refusal's number and leaves both buffers.
+pub fn run(image: &mut [u8], tape: &[u8], answers: &mut [u8]) -> u32
+    ensures { λ r. ⌜ (r ≡ resultOf (now (image .entry)) (now (tape .entry)) (now (answers .entry)))
+        × (now (image .exit) ≡ imageAfter (now (image .entry)) (now (tape .entry)) (now (answers .entry)))
+        × (now (answers .exit) ≡ answersAfter (now (image .entry)) (now (tape .entry)) (now (answers .entry))) ⌝ }
+{
+    let l = image::load(image);
+    match l {
+        Loaded::Refused(r) => coded(r, 0),
+        Loaded::Accepted(d) => {
+            let c = check(tape, answers.len());
+            if c != 0 {
+                return c;
+            }
+            let n = tape.len() / RECORD_BYTES;
+            let after = run_records(d, tape, answers, n);
+            image::store(after, image);
+            0
+        }
+    }
+}

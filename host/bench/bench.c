@@ -1,0 +1,248 @@
+/*
+ * bench.c - nanoseconds a record: mfp_run against the plain C, as a ratio
+ * taken within one run. Calls of the two alternate and the best of many
+ * rounds counts, so that a busy machine disturbs both alike.
+ *
+ * bench                      prints the table
+ * bench once CALL TAPE       makes one call only, for counting instructions;
+ *                            CALL is mfp or plain, TAPE a name of the table
+ *
+ * Each call starts from the same image; the answer buffer is not cleared
+ * between calls.
+ */
+#define _POSIX_C_SOURCE 199309L
+
+#include <stdio.h>
+#include <stdlib.h>
+#include <string.h>
+#include <time.h>
+
+#include "mfp.h"
+#include "plain.h"
+
+enum { RECORDS = MFP_TAPE_MAX / MFP_RECORD_BYTES, ROUNDS = 40, CALLS = 60 };
+
+static uint8_t start[MFP_IMAGE_BYTES];
+static uint8_t tape[MFP_TAPE_MAX];
+static uint8_t answers[RECORDS * MFP_ANSWER_BYTES];
+
+static uint32_t seed;
+
+/* A number below bound, the same in every run. */
+static uint32_t below(uint32_t bound)
+{
+    seed ^= seed << 13;
+    seed ^= seed >> 17;
+    seed ^= seed << 5;
+    return seed % bound;
+}
+
+static void put_record(size_t at, uint8_t kind, uint8_t a, uint32_t n)
+{
+    uint8_t *record = tape + MFP_RECORD_BYTES * at;
+
+    record[0] = MFP_RECORD_MARK_0;
+    record[1] = MFP_RECORD_MARK_1;
+    record[MFP_RECORD_KIND] = kind;
+    record[MFP_RECORD_A] = a;
+    record[MFP_RECORD_N] = (uint8_t)(n >> 24);
+    record[MFP_RECORD_N + 1] = (uint8_t)(n >> 16);
+    record[MFP_RECORD_N + 2] = (uint8_t)(n >> 8);
+    record[MFP_RECORD_N + 3] = (uint8_t)n;
+}
+
+static void put_access(size_t at)
+{
+    uint8_t rs = (uint8_t)below(MFP_SCR);
+
+    if (below(2))
+        put_record(at, MFP_READ, rs, 0);
+    else
+        put_record(at, MFP_WRITE, rs, below(256));
+}
+
+static void put_clocks(size_t at)
+{
+    put_record(at, MFP_CLOCKS, 0, below(100000));
+}
+
+static void put_one_clock(size_t at)
+{
+    put_record(at, MFP_CLOCKS, 0, 1);
+}
+
+static void put_longest(size_t at)
+{
+    put_record(at, MFP_CLOCKS, 0, UINT32_MAX);
+}
+
+static void put_any(size_t at)
+{
+    switch (below(8)) {
+    case 0:
+        put_record(at, MFP_LINE, (uint8_t)below(8), below(2));
+        break;
+    case 1:
+        put_record(at, MFP_INPUT, (uint8_t)below(2), below(2));
+        break;
+    case 2:
+        put_record(at, MFP_ACKNOWLEDGE, 1, 0);
+        break;
+    case 3:
+        put_record(at, MFP_RAISE, (uint8_t)(9 + below(4)), 0);
+        break;
+    case 4:
+    case 5:
+        put_clocks(at);
+        break;
+    default:
+        put_access(at);
+        break;
+    }
+}
+
+static const struct kind {
+    const char *name;
+    void (*put)(size_t at);
+} kinds[] = {
+    {"mixed", put_any},         {"registers", put_access}, {"clocks", put_clocks},
+    {"one-clock", put_one_clock}, {"longest", put_longest},
+};
+
+enum { KINDS = sizeof kinds / sizeof kinds[0], ONE_CLOCK = 3, LONGEST = 4 };
+
+static void make_tape(int kind)
+{
+    size_t at;
+
+    seed = 1;
+    for (at = 0; at < RECORDS; at++)
+        kinds[kind].put(at);
+}
+
+static void fail(const char *what)
+{
+    fprintf(stderr, "bench: %s\n", what);
+    exit(EXIT_FAILURE);
+}
+
+static void by_mfp(uint8_t *image)
+{
+    if (mfp_run(image, MFP_IMAGE_BYTES, tape, sizeof tape, answers, sizeof answers) != 0)
+        fail("mfp_run refused the tape");
+}
+
+static void by_plain(uint8_t *image)
+{
+    plain_run(image, tape, RECORDS, answers);
+}
+
+/* A device with all interrupts on and the four timers running. */
+static void make_start(void)
+{
+    static const uint8_t writes[][2] = {
+        {MFP_VR, 0x48},   {MFP_IERA, 0xFF}, {MFP_IERB, 0xFF}, {MFP_IMRA, 0xFF}, {MFP_IMRB, 0xFF},
+        {MFP_TADR, 0x03}, {MFP_TBDR, 0x64}, {MFP_TCDR, 0xC0}, {MFP_TDDR, 0x00}, {MFP_TACR, 0x01},
+        {MFP_TBCR, 0x03}, {MFP_TCDCR, 0x57},
+    };
+    size_t count = sizeof writes / sizeof writes[0];
+    size_t i;
+
+    for (i = 0; i < count; i++)
+        put_record(i, MFP_WRITE, writes[i][0], writes[i][1]);
+    if (mfp_fresh(start, sizeof start) != 0)
+        fail("mfp_fresh refused the image");
+    if (mfp_run(start, sizeof start, tape, count * MFP_RECORD_BYTES, answers, sizeof answers) != 0)
+        fail("mfp_run refused the set-up");
+}
+
+/* Before anything is measured both must do the same work. */
+static void check_same(void)
+{
+    static uint8_t kept[sizeof answers];
+    uint8_t one[MFP_IMAGE_BYTES], other[MFP_IMAGE_BYTES];
+
+    memcpy(one, start, sizeof one);
+    memcpy(other, start, sizeof other);
+    by_mfp(one);
+    memcpy(kept, answers, sizeof kept);
+    by_plain(other);
+    if (memcmp(one, other, sizeof one) != 0 || memcmp(kept, answers, sizeof kept) != 0)
+        fail("mfp_run and the plain C differ");
+}
+
+static double now(void)
+{
+    struct timespec t;
+
+    clock_gettime(CLOCK_MONOTONIC, &t);
+    return 1e9 * (double)t.tv_sec + (double)t.tv_nsec;
+}
+
+/* Nanoseconds a record over some calls, if better than what was there. */
+static void measure(void (*run)(uint8_t *image), double *best)
+{
+    double begin = now();
+    double each;
+    int i;
+
+    for (i = 0; i < CALLS; i++) {
+        uint8_t image[MFP_IMAGE_BYTES];
+
+        memcpy(image, start, sizeof image);
+        run(image);
+    }
+    each = (now() - begin) / CALLS / RECORDS;
+    if (each < *best)
+        *best = each;
+}
+
+static void print_table(void)
+{
+    double mfp[KINDS], plain[KINDS];
+    int kind, round;
+
+    printf("%-12s %10s %10s %7s\n", "ns a record", "mfp_run", "plain C", "ratio");
+    for (kind = 0; kind < KINDS; kind++) {
+        make_tape(kind);
+        check_same();
+        mfp[kind] = plain[kind] = 1e9;
+        for (round = 0; round < ROUNDS; round++) {
+            measure(by_mfp, &mfp[kind]);
+            measure(by_plain, &plain[kind]);
+        }
+        printf("%-12s %10.2f %10.2f %7.2f\n", kinds[kind].name, mfp[kind], plain[kind],
+               mfp[kind] / plain[kind]);
+    }
+    printf("4294967295 clocks against 1: mfp_run %.2f, plain C %.2f\n",
+           mfp[LONGEST] / mfp[ONE_CLOCK], plain[LONGEST] / plain[ONE_CLOCK]);
+}
+
+static void run_once(const char *call, const char *name)
+{
+    int kind = 0;
+
+    while (kind < KINDS && strcmp(kinds[kind].name, name) != 0)
+        kind++;
+    if (kind == KINDS)
+        fail("no such tape");
+    make_tape(kind);
+    if (strcmp(call, "mfp") == 0)
+        by_mfp(start);
+    else if (strcmp(call, "plain") == 0)
+        by_plain(start);
+    else
+        fail("no such call");
+}
+
+int main(int argc, char **argv)
+{
+    make_start();
+    if (argc == 1)
+        print_table();
+    else if (argc == 4 && strcmp(argv[1], "once") == 0)
+        run_once(argv[2], argv[3]);
+    else
+        fail("usage: bench [once mfp|plain TAPE]");
+    return EXIT_SUCCESS;
+}

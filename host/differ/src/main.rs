@@ -1,0 +1,150 @@
+//! The proved library against the second implementation.
+//!
+//! `differ` runs the named cases and four million random events by fixed seeds;
+//! `differ --seed S --events N` runs random events alone, by any seed;
+//! `differ --replay PROGRAM` compares the replay program's lines.
+//! The last line is `N passed, M failed`; any failure is a non-zero status.
+#![deny(warnings)]
+
+mod cases_bench;
+mod cases_hard;
+mod cases_refusals;
+mod ffi;
+mod guard;
+mod lent;
+mod program;
+mod random;
+mod rig;
+mod shrink;
+
+use guard::Side;
+use lent::Lender;
+use random::Reached;
+use std::process::{Command, ExitCode};
+
+/// The seeds of a run without arguments, and the events of each.
+const SEEDS: std::ops::RangeInclusive<u64> = 1..=10;
+const EVENTS: u64 = 400_000;
+/// With so many events a run has to reach everything at least once.
+const ENOUGH_TO_REACH_ALL: u64 = 20_000;
+
+/// The named cases that ran.
+#[derive(Default)]
+struct Tally {
+    passed: u64,
+    failed: u64,
+    checks: u64,
+}
+
+impl Tally {
+    fn case(&mut self, name: &str, run: impl FnOnce() -> Result<u64, String>) {
+        guard::now_running(name);
+        match run() {
+            Ok(checks) => {
+                self.passed += 1;
+                self.checks += checks;
+                println!("ok   {name}");
+            }
+            Err(wrong) => {
+                self.failed += 1;
+                println!("FAIL {name}\n{wrong}");
+            }
+        }
+    }
+}
+
+fn main() -> ExitCode {
+    guard::report_faults();
+    let arguments: Vec<String> = std::env::args().skip(1).collect();
+    let words: Vec<&str> = arguments.iter().map(String::as_str).collect();
+    let mut tally = Tally::default();
+    match words.as_slice() {
+        [] => everything(&mut tally),
+        ["--seed", seed, "--events", events] => {
+            let (Ok(seed), Ok(events)) = (seed.parse(), events.parse()) else {
+                return usage();
+            };
+            random_events(&mut tally, seed..=seed, events);
+        }
+        ["--replay", program] => program::replays(|name, run| tally.case(name, run), program),
+        ["--touch", side] => touch(side),
+        _ => return usage(),
+    }
+    println!("{} checks in all", tally.checks);
+    println!("{} passed, {} failed", tally.passed, tally.failed);
+    ExitCode::from(u8::from(tally.failed > 0))
+}
+
+fn usage() -> ExitCode {
+    eprintln!("usage: differ [--seed S --events N | --replay PROGRAM]");
+    ExitCode::from(2)
+}
+
+fn everything(tally: &mut Tally) {
+    let mut lender = Lender::new();
+    for side in ["left", "right"] {
+        let name = format!("a byte outside on the {side} is noticed");
+        tally.case(&name, || is_noticed(side));
+    }
+    tally.case("the sample tape and its ten lines", || {
+        cases_bench::sample(&mut lender)
+    });
+    for (name, case) in cases_bench::CASES.iter().chain(cases_hard::CASES) {
+        tally.case(name, || {
+            let mut rig = rig::Rig::new(&mut lender);
+            case(&mut rig);
+            rig.finish()
+        });
+    }
+    for (name, case) in cases_refusals::CASES {
+        tally.case(name, || cases_refusals::run(&mut lender, *case));
+    }
+    random_events(tally, SEEDS, EVENTS);
+}
+
+/// Random events by each seed; then everything must have been reached.
+fn random_events(tally: &mut Tally, seeds: std::ops::RangeInclusive<u64>, events: u64) {
+    let mut lender = Lender::new();
+    let mut reached = Reached::default();
+    for seed in seeds {
+        tally.case(&format!("{events} random events, seed {seed}"), || {
+            random::run(&mut lender, seed, events, &mut reached)
+        });
+    }
+    for (name, count) in reached.named() {
+        println!("     {name}: {count}");
+    }
+    if reached.events >= ENOUGH_TO_REACH_ALL {
+        tally.case("everything was reached", || all_reached(&reached));
+    }
+    println!("{} random events in accepted tapes", reached.events);
+}
+
+fn all_reached(reached: &Reached) -> Result<u64, String> {
+    let named = reached.named();
+    match named.iter().find(|(_, count)| *count == 0) {
+        Some((name, _)) => Err(format!("never reached: {name}")),
+        None => Ok(named.len() as u64),
+    }
+}
+
+/// A second process touches a byte outside and must end by it.
+fn is_noticed(side: &str) -> Result<u64, String> {
+    let program = std::env::current_exe().map_err(|error| error.to_string())?;
+    let output = Command::new(program).args(["--touch", side]).output();
+    let status = output.map_err(|error| error.to_string())?.status;
+    if status.code() == Some(guard::FAULT_STATUS) {
+        Ok(1)
+    } else {
+        Err(format!("the touching process ended with {status}"))
+    }
+}
+
+fn touch(side: &str) {
+    let side = if side == "left" {
+        Side::Left
+    } else {
+        Side::Right
+    };
+    guard::touch_outside(side, 33);
+}

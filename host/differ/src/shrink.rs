@@ -1,0 +1,116 @@
+//! From a call that goes wrong to a small one that still does, and its report.
+
+use crate::lent::{Call, Lender, Outcome};
+use mfp_host::reference::layout::{record_at, ANSWER_BYTES, RECORD_BYTES};
+use mfp_host::{reference, replay, text};
+
+/// How many calls the search for a smaller one may cost.
+const TRIES: usize = 20_000;
+
+/// The report of a call on which library and second implementation do not
+/// agree, made as small as was found.
+pub fn report(lender: &mut Lender, call: &Call, wrong: &str) -> String {
+    let small = smallest(call, |smaller| lender.compare(smaller).is_err());
+    let why = lender.compare(&small).err();
+    let mut said = format!("{}\n", why.as_deref().unwrap_or(wrong)) + &shown(&small);
+    said += &outcome_lines("second implementation", &small, &small.by_reference());
+    if let Ok(got) = lender.by_library(&small) {
+        said += &outcome_lines("library", &small, &got);
+    }
+    said
+}
+
+/// Take any smaller call that is still wrong, until there is none.
+pub fn smallest(call: &Call, mut wrong: impl FnMut(&Call) -> bool) -> Call {
+    let mut call = call.clone();
+    let mut tries = 0;
+    loop {
+        let smaller = smaller_calls(&call).find(|smaller| {
+            tries += 1;
+            tries > TRIES || wrong(smaller)
+        });
+        match smaller {
+            Some(smaller) if tries <= TRIES => call = smaller,
+            _ => return call,
+        }
+    }
+}
+
+/// One record less, a smaller operand, or one image byte as in a fresh device.
+fn smaller_calls(call: &Call) -> impl Iterator<Item = Call> + '_ {
+    let records = 0..call.tape.len() / RECORD_BYTES;
+    let fewer = records.clone().rev().map(|i| without(call, i));
+    let fresher = (0..call.image.len()).filter_map(|i| fresher(call, i));
+    let lower = records.flat_map(|i| lower_operands(call, i));
+    fewer.chain(fresher).chain(lower)
+}
+
+fn without(call: &Call, record: usize) -> Call {
+    let mut smaller = call.clone();
+    let at = record * RECORD_BYTES;
+    smaller.tape.drain(at..at + RECORD_BYTES);
+    let room = smaller.answers.len().saturating_sub(ANSWER_BYTES);
+    smaller.answers.truncate(room);
+    smaller
+}
+
+fn lower_operands(call: &Call, record: usize) -> Vec<Call> {
+    let at = record * RECORD_BYTES + record_at::N;
+    let n = u32::from_be_bytes(call.tape[at..at + 4].try_into().expect("four bytes"));
+    // 0, then half, three quarters and so on up to one less.
+    let steps = (0..32).map(|k| n - (n >> k));
+    steps
+        .filter(|&m| m < n)
+        .map(|m| {
+            let mut smaller = call.clone();
+            smaller.tape[at..at + 4].copy_from_slice(&m.to_be_bytes());
+            smaller
+        })
+        .collect()
+}
+
+fn fresher(call: &Call, at: usize) -> Option<Call> {
+    let fresh = reference::Device::fresh().save();
+    let byte = *fresh.get(at)?;
+    if call.image[at] == byte {
+        return None;
+    }
+    let mut smaller = call.clone();
+    smaller.image[at] = byte;
+    Some(smaller)
+}
+
+/// Bytes as they stand in the papers.
+pub fn hex(bytes: &[u8]) -> String {
+    let digits: Vec<String> = bytes.iter().map(|b| format!("{b:02X}")).collect();
+    digits.join(" ")
+}
+
+/// The three buffers of a call.
+pub fn shown(call: &Call) -> String {
+    let image = format!("  image   {}\n", hex(&call.image));
+    let room = format!("  answers {} bytes\n", call.answers.len());
+    image + &tape_lines(&call.tape) + &room
+}
+
+/// The tape in its text form, or as bytes where it has none.
+fn tape_lines(tape: &[u8]) -> String {
+    match text::decode(tape) {
+        Ok(lines) => lines.lines().map(|l| format!("  tape    {l}\n")).collect(),
+        Err(_) => format!("  tape    {}\n", hex(tape)),
+    }
+}
+
+/// The code, the replay lines and the image of an outcome.
+pub fn outcome_lines(who: &str, call: &Call, outcome: &Outcome) -> String {
+    let mut said = format!("  {who}:\n");
+    if outcome.code != 0 {
+        said += &format!("    {}", replay::refused(outcome.code));
+    } else {
+        let written = call.tape.len() / RECORD_BYTES * ANSWER_BYTES;
+        for line in replay::lines(&outcome.answers[..written]).lines() {
+            said += &format!("    {line}\n");
+        }
+    }
+    said + &format!("    image {}\n", hex(&outcome.image))
+}

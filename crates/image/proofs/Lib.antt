@@ -1,3 +1,2 @@
--- The laws of an image: what an accepted one has shown, and the way there and back.
+-- The laws of an image: what an accepted one has shown.
 pub mod Loads
-pub mod RoundTrip

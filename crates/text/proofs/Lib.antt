@@ -1,0 +1,5 @@
+-- The laws of decimal numbers, of stores one after the other, and of a line in a buffer that the functions use.
+pub mod Decimal
+pub mod Stores
+pub mod Whole
+pub mod Sample

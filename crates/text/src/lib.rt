@@ -1,0 +1,168 @@
+// The lines of the replay program as bytes at the start of a buffer that the caller lends. The text
+// stands in specs/Lines.antt. A buffer of 64 bytes holds every line; a shorter one stays as it was.
+use device::Answer;
+use device::Timeouts;
+ghost use mathlib.Core.Path.{_≡_};
+ghost use mathlib.Core.List.{[], _∷_, _++_};
+ghost use Prim.Native.Nat.{_+_, _≤_, _<_};
+ghost use lib.ListN.{length};
+ghost use lib.Seq.{sets};
+ghost use Rattle.text.specs.Lines.{decimal, hexDigit, hexByte, classLetter, valueText, irqDigit, middleOf, countsOf, lineOf, refusedLine, written, writtenLength, Counts};
+
+// The hex digit of a number below 16.
+fn hex_digit(d: u8) -> u8
+    requires { ⌜ d < 16 ⌝ }
+    ensures { λ r. ⌜ r ≡ hexDigit d ⌝ }
+{
+    if d < 10 {
+        return b'0' + d;
+    }
+    b'A' - 10 + d
+}
+
+fn class_letter(a: Answer) -> u8
+    ensures { λ r. ⌜ r ≡ classLetter a ⌝ }
+{
+    match a {
+        Answer::Done => b'D',
+        Answer::Data(_) => b'R',
+        Answer::Vector(_) => b'V',
+        Answer::PassedOn => b'P',
+        Answer::Held => b'H',
+    }
+}
+
+// The two hex digits of a byte.
+fn hex_byte(v: u8) -> [u8; 2]
+    ensures { λ r. ⌜ r ≡ hexByte v ⌝ }
+{
+    let high = hex_digit(v / 16);
+    let low = hex_digit(v % 16);
+    [high, low]
+}
+
+fn value_text(a: Answer) -> [u8; 2]
+    ensures { λ r. ⌜ r ≡ valueText a ⌝ }
+{
+    match a {
+        Answer::Done => [b'-', b'-'],
+        Answer::Data(v) => hex_byte(v),
+        Answer::Vector(v) => hex_byte(v),
+        Answer::PassedOn => [b'-', b'-'],
+        Answer::Held => [b'-', b'-'],
+    }
+}
+
+fn irq_digit(irq: bool) -> u8
+    ensures { λ r. ⌜ r ≡ irqDigit irq ⌝ }
+{
+    if irq {
+        return b'1';
+    }
+    b'0'
+}
+
+// Class, value, IRQ and outputs, with a space after each.
+fn middle(a: Answer, irq: bool, outputs: u8) -> [u8; 12]
+    ensures { λ r. ⌜ r ≡ middleOf a irq outputs ⌝ }
+{
+    let class = class_letter(a);
+    let value = value_text(a);
+    let irq = irq_digit(irq);
+    [
+        class,
+        b' ',
+        value[0],
+        value[1],
+        b' ',
+        irq,
+        b' ',
+        b'0' + outputs % 2,
+        b'0' + outputs / 2 % 2,
+        b'0' + outputs / 4 % 2,
+        b'0' + outputs / 8 % 2,
+        b' ',
+    ]
+}
+
+// Puts text at index `at`, and returns the index after it.
+fn put(out: &mut [u8], at: usize, text: &[u8]) -> usize
+    requires { ⌜ at + length (now text) ≤ length (now out) ⌝ }
+    ensures { λ r. ⌜ r ≡ at + length (now (text .entry)) ⌝ }
+    ensures { λ _. ⌜ now (out .exit) ≡ sets (now (out .entry)) at (now (text .entry)) ⌝ }
+{
+    let mut i = 0;
+    while i < text.len() {
+        out[at + i] = text[i];
+        i += 1;
+    }
+    at + i
+}
+
+// Puts n in decimal at index `at`, and returns the index after it.
+fn put_decimal(out: &mut [u8], at: usize, n: u32) -> usize
+    requires { ⌜ at + length (decimal n) ≤ length (now out) ⌝ }
+    ensures { λ r. ⌜ r ≡ at + length (decimal n) ⌝ }
+    ensures { λ _. ⌜ now (out .exit) ≡ sets (now (out .entry)) at (decimal n) ⌝ }
+{
+    if n < 10 {
+        out[at] = b'0' + n as u8;
+        return at + 1;
+    }
+    let next = put_decimal(out, at, n / 10);
+    out[next] = b'0' + (n % 10) as u8;
+    next + 1
+}
+
+// Puts n in decimal and the byte after it.
+fn put_number(out: &mut [u8], at: usize, n: u32, after: u8) -> usize
+    requires { ⌜ at + length (decimal n) < length (now out) ⌝ }
+    ensures { λ r. ⌜ r ≡ at + length (decimal n) + 1 ⌝ }
+    ensures { λ _. ⌜ now (out .exit) ≡ sets (now (out .entry)) at (decimal n ++ (after ∷ [])) ⌝ }
+{
+    let next = put_decimal(out, at, n);
+    out[next] = after;
+    next + 1
+}
+
+// Puts the four counts, A to D, and ends the line.
+fn put_counts(out: &mut [u8], at: usize, n: Timeouts) -> usize
+    requires { ⌜ at + 44 ≤ length (now out) ⌝ }
+    ensures { λ r. ⌜ r ≡ at + length (countsOf n) ⌝ }
+    ensures { λ r. ⌜ r ≤ at + 44 ⌝ }
+    ensures { λ _. ⌜ now (out .exit) ≡ sets (now (out .entry)) at (countsOf n) ⌝ }
+{
+    let to_b = put_number(out, at, n.a, b' ');
+    let to_c = put_number(out, to_b, n.b, b' ');
+    let to_d = put_number(out, to_c, n.c, b' ');
+    put_number(out, to_d, n.d, b'\n')
+}
+
+// Writes the line of a record, and returns its length.
+pub fn line(out: &mut [u8], index: u16, a: Answer, irq: bool, outputs: u8, n: Timeouts) -> usize
+    ensures { λ r. ⌜ r ≡ writtenLength (lineOf index a irq outputs n) (now (out .entry)) ⌝ }
+    ensures { λ _. ⌜ now (out .exit) ≡ written (lineOf index a irq outputs n) (now (out .entry)) ⌝ }
+    ensures { λ r. ⌜ Counts r (now (out .exit)) ⌝ }
+{
+    if out.len() < 64 {
+        return 0;
+    }
+    let words = middle(a, irq, outputs);
+    let to_words = put_number(out, 0, index as u32, b' ');
+    let to_counts = put(out, to_words, &words);
+    put_counts(out, to_counts, n)
+}
+
+// Writes the line of a refused tape, and returns its length.
+pub fn refused(out: &mut [u8], number: u8, index: u16) -> usize
+    ensures { λ r. ⌜ r ≡ writtenLength (refusedLine number index) (now (out .entry)) ⌝ }
+    ensures { λ _. ⌜ now (out .exit) ≡ written (refusedLine number index) (now (out .entry)) ⌝ }
+    ensures { λ r. ⌜ Counts r (now (out .exit)) ⌝ }
+{
+    if out.len() < 64 {
+        return 0;
+    }
+    let to_number = put(out, 0, b"refused ");
+    let to_index = put_number(out, to_number, number as u32, b' ');
+    put_number(out, to_index, index as u32, b'\n')
+}

@@ -3,7 +3,7 @@
 use Prim.Native.Nat.{ℕ, zero, suc, _+_}
 use mathlib.Core.Path.{_≡_, refl, sym, ap, ap₂, _∙_}
 use mathlib.Core.List.{List, [], _∷_, _++_, append-assoc}
-use native.Mathlib.Nat.{zero-add, suc-add, add-assoc}
+use native.Mathlib.Nat.{zero-add, add-zero, suc-add, add-assoc}
 use native.Mathlib.Numerals.{one-add}
 use lib.ListN.{replicate}
 use Rattle.device.specs.declared.Timeouts.{Timeouts}
@@ -28,14 +28,27 @@ unfolding runOf stepOf clocksDevice
 single-clocks d zero = refl
 single-clocks d (suc n) = single-clocks (clockDevice d) n
 
+-- and the timeouts of those n events add up to its counts
+add-none : (t : Timeouts) → addTimeouts none t ≡ t
+add-none t = λ k. record { a = zero-add (t .a) k; b = zero-add (t .b) k; c = zero-add (t .c) k; d = zero-add (t .d) k }
+
+none-added : (t : Timeouts) → addTimeouts t none ≡ t
+none-added t = λ k. record { a = add-zero (t .a) k; b = add-zero (t .b) k; c = add-zero (t .c) k; d = add-zero (t .d) k }
+
+unfoldable pub timeoutsOf : Device → List Event → Timeouts
+timeoutsOf d [] = none
+timeoutsOf d (e ∷ es) = addTimeouts (stepOf d e .timeouts) (timeoutsOf (stepOf d e .device) es)
+
+pub single-clocks-counts : (d : Device) (n : ℕ) → timeoutsOf d (replicate n (Clocks 1)) ≡ stepOf d (Clocks n) .timeouts
+unfolding timeoutsOf stepOf clocksDevice timeoutsDevice
+single-clocks-counts d zero = refl
+single-clocks-counts d (suc n) = ap₂ addTimeouts (none-added (clockTimeouts d)) (single-clocks-counts (clockDevice d) n)
+
 -- ---- m clocks and then n are m + n
 pub clocks-join : (m n : ℕ) (d : Device) → clocksDevice n (clocksDevice m d) ≡ clocksDevice (m + n) d
 unfolding clocksDevice
 clocks-join zero n d = ap (λ (k : ℕ). clocksDevice k d) (sym (zero-add n))
 clocks-join (suc m) n d = clocks-join m n (clockDevice d) ∙ ap (λ (k : ℕ). clocksDevice k d) (sym (suc-add m n))
-
-add-none : (t : Timeouts) → addTimeouts none t ≡ t
-add-none t = λ k. record { a = zero-add (t .a) k; b = zero-add (t .b) k; c = zero-add (t .c) k; d = zero-add (t .d) k }
 
 add-thrice : (s t u : Timeouts) → addTimeouts (addTimeouts s t) u ≡ addTimeouts s (addTimeouts t u)
 add-thrice s t u = λ k. record { a = add-assoc (s .a) (t .a) (u .a) k; b = add-assoc (s .b) (t .b) (u .b) k; c = add-assoc (s .c) (t .c) (u .c) k; d = add-assoc (s .d) (t .d) (u .d) k }

@@ -1,5 +1,5 @@
 -- Document 01, "Bench examples (P: prove)": one table of theorems about the rules themselves. Assumes nothing.
-use Prim.Native.Nat.{ℕ, _+_, _-_, _*_, _^_, _≤_, _<_}
+use Prim.Native.Nat.{ℕ, _-_, _/_, _%_, _^_, _<_}
 use mathlib.Core.Path.{_≡_, refl, sym, ap, ap₂, _∙_}
 use mathlib.Core.Bool.{Bool, true, false, Bool·beq}
 use lib.Dec.{lit≤, lit<}
@@ -20,7 +20,7 @@ use Rattle.device.specs.declared.Device.{Device}
 use Rattle.device.specs.declared.Register.the-variants.{Aer, Ier, Ipr, Imr, Tcdr, Tcdcr}
 use Rattle.device.specs.declared.TimerInput.the-variants.{Tai}
 use Rattle.device.specs.declared.Event.the-variants.{Read, Write, Input, Clocks, Acknowledge}
-use Rattle.device.specs.declared.Answer.the-variants.{Data, PassedOn, Held}
+use Rattle.device.specs.declared.Answer.the-variants.{Vector, PassedOn, Held}
 use Rattle.device.specs.Signals.{lineActive, taiActive, tbiActive, channelsBelow, channelsOf, timeoutChannels, muted, lineRaises, pulseEnds, countsA, countsB, signalTimeouts, signalTimers, signalRaises, signalled, withInput}
 use Rattle.device.specs.Clocks.{clocksDevice, timeoutsDevice, clockDevice, clockTimers, clockTimeouts, none}
 use Rattle.device.specs.Registers.{readOf, writeOf, writeTimeouts, withInterrupts}
@@ -103,23 +103,29 @@ pub P7 : (d : Device) → let e : Device = stepOf (device 0x2000 0x2000 0x2000 0
 unfolding stepOf writeOf kept withHalf half
 P7 d = (refl, refl)
 
--- P8 one channel pending and masked, none in service: no IRQ; mask set: IRQ. (Every channel.)
-abbrev one : ℕ → ℕ → Interrupts
-one mask c = record { enabled = 2 ^ c; pending = 2 ^ c; service = 0; mask = mask; vector = 0 }
+-- P8 one channel pending and masked, none in service: no IRQ; mask set: IRQ. (Every channel, its mask bit written in IMRA or IMRB.)
+abbrev masked : ℕ → Device → Device
+masked c d = device (2 ^ c) (2 ^ c) 0 0 d
 
-pub P8 : (c : ℕ) → c < 16 → (irq (one 0 c) ≡ false) × (irq (one (2 ^ c) c) ≡ true)
-unfolding irq someRequests requests has
-P8 c h = (same _ _ (everywhere 16 (λ (c : ℕ). Bool·beq (irq (one 0 c)) false) tt c h), same _ _ (everywhere 16 (λ (c : ℕ). Bool·beq (irq (one (2 ^ c) c)) true) tt c h))
+abbrev unmasked : ℕ → Device → Device
+unmasked c d = stepOf (stepOf (masked c d) (Write (Imr A) (2 ^ c / 256)) .device) (Write (Imr B) (2 ^ c % 256)) .device
+
+pub P8 : (d : Device) (c : ℕ) → c < 16 → (irqOf (masked c d) ≡ false) × (irqOf (unmasked c d) ≡ true)
+unfolding stepOf writeOf withHalf irq someRequests requests has
+P8 d c h = (same _ _ (everywhere 16 (λ (c : ℕ). Bool·beq (irqOf (masked c d)) false) tt c h), same _ _ (everywhere 16 (λ (c : ℕ). Bool·beq (irqOf (unmasked c d)) true) tt c h))
 
 -- P9 IPRA 21: write DF gives 01; write FF leaves 21.
 pub P9 : (d : Device) → (readOf (Ipr A) (stepOf (device 0x2100 0x2100 0 0 d) (Write (Ipr A) 0xDF) .device) ≡ 0x01) × (readOf (Ipr A) (stepOf (device 0x2100 0x2100 0 0 d) (Write (Ipr A) 0xFF) .device) ≡ 0x21)
 unfolding stepOf writeOf readOf kept withHalf half
 P9 d = (refl, refl)
 
--- P10 8 and 13 pending and unmasked, only 8 in service: 8 does not request, 13 does.
-pub P10 : (d : Device) → let i : Interrupts = device 0x2100 0x2100 0x0100 0x2100 d .interrupts in (requests i 8 ≡ false) × (requests i 13 ≡ true)
-unfolding requests has
-P10 d = (refl, refl)
+-- P10 8 and 13 pending and unmasked, only 8 in service: 8 does not request, 13 does. (And so an acknowledge gives 13's vector.)
+abbrev serving : Device → Device
+serving d = device 0x2100 0x2100 0x0100 0x2100 d
+
+pub P10 : (d : Device) → (requests (serving d .interrupts) 8 ≡ false) × (requests (serving d .interrupts) 13 ≡ true) × (stepOf (serving d) (Acknowledge true) .answer ≡ Vector 0x4D)
+unfolding stepOf acknowledged highest highestBelow vectorOf requests has
+P10 d = (refl, refl, refl)
 
 -- ---- lines and inputs: any interrupts but for the enabled channel, any timers but for A's mode
 abbrev wired : Lines → ℕ → Timer → Device → Device

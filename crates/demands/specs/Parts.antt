@@ -1,12 +1,12 @@
 -- "No event but those that document 01 names changes a given register, pending or in-service bit": the table `touched`, an event a row, and the theorem that an event changes nothing but its row. Assumes nothing.
 use Prim.Native.Nat.{ℕ, zero, suc, _+_}
 use mathlib.Core.Path.{_≡_, refl, sym, ap, _∙_}
-use mathlib.Core.Bool.{Bool, true, false, cond, _||_}
+use mathlib.Core.Bool.{Bool, true, false, cond, not, _&&_, _||_}
 use mathlib.Core.List.{List, [], _∷_}
 use lib.Dec.{eqb}
 use Rattle.timer.specs.declared.Timer.{Timer}
-use Rattle.timer.specs.Timers.{runs, at, pulsed, atDivisor, clocked, clocks, controlled, reloadWritten, resetTimer}
-use Rattle.timer.proofs.Pulses.{pulsed-mode, pulsed-reload}
+use Rattle.timer.specs.Timers.{eventCount, runs, at, pulsed, atDivisor, clocked, clocks, controlled, reloadWritten, resetTimer}
+use Rattle.timer.proofs.Pulses.{pulsed-mode, pulsed-reload, pulsed-position}
 use Rattle.timer.proofs.Rule.{clocks-mode}
 use Rattle.interrupts.specs.declared.Interrupts.{Interrupts}
 use Rattle.interrupts.specs.declared.Requesting.{Requesting}
@@ -32,37 +32,37 @@ pub data Name : Type 0 where
   A B C D : Name
 
 pub data Part : Type 0 where
-  gpdr aer ddr levels inputs enabled pending service mask vector : Part
-  -- a timer's mode, its data value, and what runs: its counter, position and output
-  mode reload running : Name → Part
+  gpdr aer ddr levels tai tbi enabled pending service mask vector : Part
+  mode reload counter position output : Name → Part
 
 -- ---- the table
 -- what a write of a register may change
 abbrev pub byWrite : Register → List Part
 byWrite Gpdr = gpdr ∷ []
-byWrite Aer = aer ∷ pending ∷ running A ∷ running B ∷ []
+byWrite Aer = aer ∷ pending ∷ counter A ∷ output A ∷ counter B ∷ output B ∷ []
 byWrite Ddr = ddr ∷ []
 byWrite (Ier h) = enabled ∷ pending ∷ []
 byWrite (Ipr h) = pending ∷ []
 byWrite (Isr h) = service ∷ []
 byWrite (Imr h) = mask ∷ []
 byWrite Vr = vector ∷ service ∷ []
-byWrite Tacr = mode A ∷ running A ∷ []
-byWrite Tbcr = mode B ∷ running B ∷ []
-byWrite Tcdcr = mode C ∷ running C ∷ mode D ∷ running D ∷ []
-byWrite Tadr = reload A ∷ running A ∷ []
-byWrite Tbdr = reload B ∷ running B ∷ []
-byWrite Tcdr = reload C ∷ running C ∷ []
-byWrite Tddr = reload D ∷ running D ∷ []
+byWrite Tacr = mode A ∷ position A ∷ output A ∷ []
+byWrite Tbcr = mode B ∷ position B ∷ output B ∷ []
+byWrite Tcdcr = mode C ∷ position C ∷ mode D ∷ position D ∷ []
+byWrite Tadr = reload A ∷ counter A ∷ []
+byWrite Tbdr = reload B ∷ counter B ∷ []
+byWrite Tcdr = reload C ∷ counter C ∷ []
+byWrite Tddr = reload D ∷ counter D ∷ []
 
 -- what an event may change
 abbrev pub touched : Event → List Part
-touched Reset = gpdr ∷ aer ∷ ddr ∷ enabled ∷ pending ∷ service ∷ mask ∷ vector ∷ mode A ∷ running A ∷ mode B ∷ running B ∷ mode C ∷ running C ∷ mode D ∷ running D ∷ []
+touched Reset = gpdr ∷ aer ∷ ddr ∷ enabled ∷ pending ∷ service ∷ mask ∷ vector ∷ mode A ∷ position A ∷ output A ∷ mode B ∷ position B ∷ output B ∷ mode C ∷ position C ∷ output C ∷ mode D ∷ position D ∷ output D ∷ []
 touched (Read r) = []
 touched (Write r v) = byWrite r
-touched (Level i high) = levels ∷ pending ∷ running A ∷ running B ∷ []
-touched (Input i high) = inputs ∷ pending ∷ running A ∷ running B ∷ []
-touched (Clocks n) = pending ∷ running A ∷ running B ∷ running C ∷ running D ∷ []
+touched (Level i high) = levels ∷ pending ∷ []
+touched (Input Tai high) = tai ∷ pending ∷ counter A ∷ output A ∷ []
+touched (Input Tbi high) = tbi ∷ pending ∷ counter B ∷ output B ∷ []
+touched (Clocks n) = pending ∷ counter A ∷ position A ∷ output A ∷ counter B ∷ position B ∷ output B ∷ counter C ∷ position C ∷ output C ∷ counter D ∷ position D ∷ output D ∷ []
 touched (Acknowledge iei) = pending ∷ service ∷ []
 touched (Raise c) = pending ∷ []
 
@@ -78,15 +78,18 @@ index gpdr = 0
 index aer = 1
 index ddr = 2
 index levels = 3
-index inputs = 4
-index enabled = 5
-index pending = 6
-index service = 7
-index mask = 8
-index vector = 9
-index (mode n) = 10 + number n
-index (reload n) = 14 + number n
-index (running n) = 18 + number n
+index tai = 4
+index tbi = 5
+index enabled = 6
+index pending = 7
+index service = 8
+index mask = 9
+index vector = 10
+index (mode n) = 12 + number n
+index (reload n) = 16 + number n
+index (counter n) = 20 + number n
+index (position n) = 24 + number n
+index (output n) = 28 + number n
 
 abbrev pub among : Part → List Part → Bool
 among p [] = false
@@ -97,9 +100,9 @@ module _ (ps : List Part) where
   timerOf n new old = record {
     mode = cond (among (mode n) ps) (new .mode) (old .mode);
     reload = cond (among (reload n) ps) (new .reload) (old .reload);
-    counter = cond (among (running n) ps) (new .counter) (old .counter);
-    position = cond (among (running n) ps) (new .position) (old .position);
-    output = cond (among (running n) ps) (new .output) (old .output);
+    counter = cond (among (counter n) ps) (new .counter) (old .counter);
+    position = cond (among (position n) ps) (new .position) (old .position);
+    output = cond (among (output n) ps) (new .output) (old .output);
   }
 
   abbrev pub only : Device → Device → Device
@@ -109,8 +112,8 @@ module _ (ps : List Part) where
       aer = cond (among aer ps) (new .lines .aer) (old .lines .aer);
       ddr = cond (among ddr ps) (new .lines .ddr) (old .lines .ddr);
       levels = cond (among levels ps) (new .lines .levels) (old .lines .levels);
-      tai = cond (among inputs ps) (new .lines .tai) (old .lines .tai);
-      tbi = cond (among inputs ps) (new .lines .tbi) (old .lines .tbi);
+      tai = cond (among tai ps) (new .lines .tai) (old .lines .tai);
+      tbi = cond (among tbi ps) (new .lines .tbi) (old .lines .tbi);
     };
     interrupts = record {
       enabled = cond (among enabled ps) (new .interrupts .enabled) (old .interrupts .enabled);
@@ -152,28 +155,47 @@ clocks-reload active (suc n) t = clocks-reload active n (clocked active t) ∙ c
 clocks-run : (active : Bool) (n : ℕ) (t : Timer) → clocks active n t ≡ runs-on (clocks active n t) t
 clocks-run active n t = same-settings (clocks active n t) t (clocks-mode active n t) (clocks-reload active n t)
 
-pulse-run : (b : Bool) (t : Timer) → cond b (pulsed t) t ≡ runs-on (cond b (pulsed t) t) t
-pulse-run true t = same-settings (pulsed t) t (pulsed-mode t) (pulsed-reload t)
-pulse-run false t = refl
+-- a count pulse leaves the position too
+abbrev counts-on : Timer → Timer → Timer
+counts-on new old = record { mode = old .mode; reload = old .reload; counter = new .counter; position = old .position; output = new .output }
+
+pulse-counts : (b : Bool) (t : Timer) → cond b (pulsed t) t ≡ counts-on (cond b (pulsed t) t) t
+pulse-counts true t = λ k. record { mode = pulsed-mode t k; reload = pulsed-reload t k; counter = pulsed t .counter; position = pulsed-position t k; output = pulsed t .output }
+pulse-counts false t = refl
 
 -- ---- event by event
--- a change of signals: besides the lines, the timers A and B that count, and pending
+-- a change of signals: besides the lines, timers A and B where they count, and pending
 signals-only : (after : Lines) (x : Device) → signalled after x ≡ record {
   lines = after;
   interrupts = signalled after x .interrupts;
-  timers = record { a = runs-on (signalled after x .timers .a) (x .timers .a); b = runs-on (signalled after x .timers .b) (x .timers .b); c = x .timers .c; d = x .timers .d };
+  timers = record { a = counts-on (signalled after x .timers .a) (x .timers .a); b = counts-on (signalled after x .timers .b) (x .timers .b); c = x .timers .c; d = x .timers .d };
 }
 unfolding signalled signalTimers
 signals-only after x = λ k. record {
   lines = after;
   interrupts = signalled after x .interrupts;
   timers = record {
-    a = pulse-run (countsA (x .timers) (x .lines) after) (x .timers .a) k;
-    b = pulse-run (countsB (x .timers) (x .lines) after) (x .timers .b) k;
+    a = pulse-counts (countsA (x .timers) (x .lines) after) (x .timers .a) k;
+    b = pulse-counts (countsB (x .timers) (x .lines) after) (x .timers .b) k;
     c = x .timers .c;
     d = x .timers .d;
   };
 }
+
+-- a signal that stays as it was does not become active
+quiet : (e b : Bool) → (e && (not b && b)) ≡ false
+quiet true true = refl
+quiet true false = refl
+quiet false b = refl
+
+-- where TAI or TBI stays, its timer stays
+still-a : (after : Lines) (x : Device) → taiActive after ≡ taiActive (x .lines) → signalled after x .timers .a ≡ x .timers .a
+unfolding signalled signalTimers countsA
+still-a after x e = rw (e, quiet (eventCount (x .timers .a .mode)) (taiActive (x .lines))) refl
+
+still-b : (after : Lines) (x : Device) → tbiActive after ≡ tbiActive (x .lines) → signalled after x .timers .b ≡ x .timers .b
+unfolding signalled signalTimers countsB
+still-b after x e = rw (e, quiet (eventCount (x .timers .b .mode)) (tbiActive (x .lines))) refl
 
 written-only : (r : Register) (v : ℕ) (x : Device) → writeOf r v x ≡ only (byWrite r) (writeOf r v x) x
 unfolding writeOf controlled reloadWritten vectorWritten signalled signalTimers raised
@@ -195,7 +217,7 @@ written-only Tddr v x = refl
 
 -- clocks: the four timers run, and pending gains
 abbrev by-clocks : List Part
-by-clocks = pending ∷ running A ∷ running B ∷ running C ∷ running D ∷ []
+by-clocks = touched (Clocks 0)
 
 abbrev after : ℕ → Device → Device
 after n x = record { lines = x .lines; interrupts = raised (timeoutChannels (timeoutsDevice n x)) (x .interrupts); timers = timersAfter n x }
@@ -223,13 +245,25 @@ acknowledged-only Nobody i = refl
 
 -- ---- the theorem
 pub an-event-changes-only-its-row : (x : Device) (e : Event) → stepOf x e .device ≡ only (touched e) (stepOf x e .device) x
-unfolding stepOf resetDevice withLevel withInput signalled signalTimers raised acknowledged
+unfolding stepOf resetDevice withLevel withInput signalled signalTimers raised acknowledged taiActive tbiActive
 an-event-changes-only-its-row x Reset = refl
 an-event-changes-only-its-row x (Read r) = refl
 an-event-changes-only-its-row x (Write r v) = written-only r v x
-an-event-changes-only-its-row x (Level i high) = signals-only (withLevel i high (x .lines)) x
-an-event-changes-only-its-row x (Input Tai high) = signals-only (withInput Tai high (x .lines)) x
-an-event-changes-only-its-row x (Input Tbi high) = signals-only (withInput Tbi high (x .lines)) x
+an-event-changes-only-its-row x (Level i high) = λ k. record {
+  lines = withLevel i high (x .lines);
+  interrupts = signalled (withLevel i high (x .lines)) x .interrupts;
+  timers = record { a = still-a (withLevel i high (x .lines)) x refl k; b = still-b (withLevel i high (x .lines)) x refl k; c = x .timers .c; d = x .timers .d };
+}
+an-event-changes-only-its-row x (Input Tai high) = λ k. record {
+  lines = withInput Tai high (x .lines);
+  interrupts = signalled (withInput Tai high (x .lines)) x .interrupts;
+  timers = record { a = pulse-counts (countsA (x .timers) (x .lines) (withInput Tai high (x .lines))) (x .timers .a) k; b = still-b (withInput Tai high (x .lines)) x refl k; c = x .timers .c; d = x .timers .d };
+}
+an-event-changes-only-its-row x (Input Tbi high) = λ k. record {
+  lines = withInput Tbi high (x .lines);
+  interrupts = signalled (withInput Tbi high (x .lines)) x .interrupts;
+  timers = record { a = still-a (withInput Tbi high (x .lines)) x refl k; b = pulse-counts (countsB (x .timers) (x .lines) (withInput Tbi high (x .lines))) (x .timers .b) k; c = x .timers .c; d = x .timers .d };
+}
 an-event-changes-only-its-row x (Clocks n) = clocks-only n x
 an-event-changes-only-its-row x (Acknowledge true) = λ k. record { lines = x .lines; interrupts = acknowledged-only (highest (x .interrupts)) (x .interrupts) k; timers = x .timers }
 an-event-changes-only-its-row x (Acknowledge false) = refl

@@ -23,7 +23,7 @@ use Rattle.tape.specs.declared.Decoded.{Decoded}
 use Rattle.tape.specs.declared.Decoded.the-variants.{Valid, Invalid}
 use Rattle.tape.specs.declared.Checked.{Checked}
 use Rattle.tape.specs.declared.Checked.the-variants.{Fine, Bad}
-use Rattle.tape.specs.Records.{registers, registerOf, reading, writing, kinds, eventOf, records, decoded, firstBad·at, firstBad, eventsOf}
+use Rattle.tape.specs.Records.{registers, registerOf, reading, writing, kinds, eventOf, number, records, decoded, firstBad·at, firstBad, eventsOf}
 use Rattle.tape.specs.Answers.{answerBytes}
 use Rattle.tape.specs.Runs.{runOf, answersOf, fitting, code, tapeResult, resultOf, imageAfter, answersAfter}
 use Rattle.tape.proofs.Checks.{code-above}
@@ -193,9 +193,15 @@ module _ (image tape answers : List ℕ) where
 
 -- ---- the order within a record: 5, then 6, then 7, then 8
 -- a wrong mark is refusal 5 whatever else the record holds
-pub mark-first : (tape : List ℕ) (at : ℕ) → (byte tape at ≡ 0x4D → ⊥) → decoded tape at ≡ Invalid RecordMark
+pub mark-first : (tape : List ℕ) (at : ℕ) → (eqb (byte tape at) 0x4D && eqb (byte tape (at + 1)) 0x45) ≡ false → decoded tape at ≡ Invalid RecordMark
 unfolding decoded
-mark-first tape at h = rw (ne-eqb _ _ h) refl
+mark-first tape at h = rw h refl
+
+-- a right mark never is
+pub mark-right : (tape : List ℕ) (at : ℕ) → (eqb (byte tape at) 0x4D && eqb (byte tape (at + 1)) 0x45) ≡ true
+    → decoded tape at ≡ eventOf (byte tape (at + 2)) (byte tape (at + 3)) (number (byte tape (at + 4)) (byte tape (at + 5)) (byte tape (at + 6)) (byte tape (at + 7)))
+unfolding decoded
+mark-right tape at h = rw h refl
 
 -- a kind above 7 is refusal 6 whatever its operands
 pub kind-next : (kind a n : ℕ) → 8 ≤ kind → eventOf kind a n ≡ Invalid Kind
@@ -203,13 +209,13 @@ unfolding eventOf
 kind-next kind a n h = List·getD-eq-default (kinds a n) (Invalid Kind) h
 
 -- an operand out of range is refusal 7, also with rs 19 to 23; in range, these are refusal 8
-pub operand-before-serial : (a n : ℕ) → (n ≡ 0 → ⊥) → eventOf 1 a n ≡ Invalid Operand
+pub read-out-of-range : (a n : ℕ) → (leb a 23 && eqb n 0) ≡ false → eventOf 1 a n ≡ Invalid Operand
 unfolding eventOf
-operand-before-serial a n h = rw (ne-eqb _ _ h) (go (leb a 23))
-  where
-    go : (b : Bool) → cond (b && false) (reading (registerOf a)) (Invalid Operand) ≡ Invalid Operand
-    go true = refl
-    go false = refl
+read-out-of-range a n h = rw h refl
+
+pub write-out-of-range : (a n : ℕ) → (leb a 23 && leb n 255) ≡ false → eventOf 2 a n ≡ Invalid Operand
+unfolding eventOf
+write-out-of-range a n h = rw h refl
 
 pub serial-last : (a : ℕ) → 19 ≤ a → a ≤ 23 → (eventOf 1 a 0 ≡ Invalid Serial) × ((n : ℕ) → n ≤ 255 → eventOf 2 a n ≡ Invalid Serial)
 unfolding eventOf registerOf

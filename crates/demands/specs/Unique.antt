@@ -12,6 +12,8 @@ use Rattle.device.specs.Events.{stepOf, handledOf}
 use Rattle.image.specs.declared.Loaded.{Loaded}
 use Rattle.image.specs.declared.Saved.{Saved}
 use Rattle.image.specs.Image.{loadOf, storedOver, savedOf, savedOver}
+use Rattle.mfp.specs.Calls.{freshResult, freshOver}
+use Rattle.text.specs.Lines.{written, writtenLength}
 use Rattle.tape.specs.Runs.{tapeResult, resultOf, imageAfter, answersAfter}
 
 -- the law: whatever a contract equates its outcome with, it leaves one
@@ -39,6 +41,20 @@ Altered d e o x = (o ≡ handledOf d e .outcome) × (x ≡ handledOf d e .device
 
 pub event-leaves-one : (d : Device) (e : Event) {o o′ : Outcome} {x x′ : Device} → Altered d e o x → Altered d e o′ x′ → (o ≡ o′) × (x ≡ x′)
 event-leaves-one d e p q = (one (p .0) (q .0), one (p .1) (q .1))
+
+-- `mfp_fresh`: the number and the buffer at exit
+abbrev pub Freshened : List ℕ → ℕ → List ℕ → Type 0
+Freshened image r i = (r ≡ freshResult image) × (i ≡ freshOver image)
+
+pub fresh-leaves-one : (image : List ℕ) {r r′ : ℕ} {i i′ : List ℕ} → Freshened image r i → Freshened image r′ i′ → (r ≡ r′) × (i ≡ i′)
+fresh-leaves-one image p q = (one (p .0) (q .0), one (p .1) (q .1))
+
+-- `text::line` and `text::refused`: how many bytes of which text, and the buffer at exit
+abbrev pub Printed : List ℕ → List ℕ → ℕ → List ℕ → Type 0
+Printed line out r o = (r ≡ writtenLength line out) × (o ≡ written line out)
+
+pub print-leaves-one : (line out : List ℕ) {r r′ : ℕ} {o o′ : List ℕ} → Printed line out r o → Printed line out r′ o′ → (r ≡ r′) × (o ≡ o′)
+print-leaves-one line out p q = (one (p .0) (q .0), one (p .1) (q .1))
 
 -- ---- those that name a result alone are the law itself
 pub step-leaves-one : (d : Device) (e : Event) {s s′ : Stepped} → s ≡ stepOf d e → s′ ≡ stepOf d e → s ≡ s′

@@ -13,7 +13,7 @@ use Rattle.device.specs.declared.TimerInput.the-variants.{Tai, Tbi}
 use Rattle.device.specs.declared.Event.{Event}
 use Rattle.device.specs.declared.Event.the-variants.{Reset, Read, Write, Level, Input, Clocks, Acknowledge, Raise}
 use Rattle.device.specs.declared.Refusal.{Refusal}
-use Rattle.device.specs.declared.Refusal.the-variants.{RecordMark, Kind, Operand, Serial}
+use Rattle.device.specs.declared.Refusal.the-variants.{TapeLength, RecordMark, Kind, Operand, Serial}
 use Rattle.image.specs.Image.{byte}
 use Rattle.tape.specs.declared.Selected.{Selected}
 use Rattle.tape.specs.declared.Selected.the-variants.{Known, SerialPort}
@@ -106,6 +106,10 @@ decoded tape at =
 -- how many records a tape of accepted length has
 abbrev pub records : List ℕ → ℕ
 records tape = length tape / recordBytes
+
+-- the record of index i: refusal 4 where the tape ends before it
+unfoldable pub recordAt : List ℕ → ℕ → Decoded
+recordAt tape i = cond (leb (records tape) i) (Invalid TapeLength) (decoded tape (i * recordBytes))
 
 -- "5 to 8 for each record in tape order": the first refused of the k records from the i-th on, with its index
 abbrev pub firstBad·at : Decoded → ℕ → Checked → Checked

@@ -17,7 +17,7 @@ ghost use mathlib.Core.List.{_++_};
 ghost use Prim.Native.Nat.{_+_, _*_, _≤_, _<_};
 ghost use lib.ListN.{length, take, drop};
 ghost use Rattle.device.specs.Events.{stepOf, bit};
-ghost use Rattle.tape.specs.Records.{recordBytes, registerOf, reading, writing, inputOf, inRange, eventOf, number, decoded, records, firstBad, events, eventsOf};
+ghost use Rattle.tape.specs.Records.{recordBytes, registerOf, reading, writing, inputOf, inRange, eventOf, number, decoded, records, recordAt, firstBad, events, eventsOf};
 ghost use Rattle.tape.specs.Answers.{answerBytes, answerOf};
 ghost use Rattle.tape.specs.Runs.{runOf, answersOf, code, tapeResult, resultOf, imageAfter, answersAfter};
 
@@ -178,6 +178,16 @@ fn decode(tape: &[u8], at: usize) -> Decoded
     }
     let n = number_of(tape[at + 4], tape[at + 5], tape[at + 6], tape[at + 7]);
     event_of(tape[at + 2], tape[at + 3], n)
+}
+
+// What the record of index i means: refusal 4 where the tape ends before it.
+pub fn record_at(tape: &[u8], i: usize) -> Decoded
+    ensures { λ r. ⌜ r ≡ recordAt (now (tape .entry)) i ⌝ }
+{
+    if tape.len() / RECORD_BYTES <= i {
+        return Decoded::Invalid(Refusal::TapeLength);
+    }
+    decode(tape, i * RECORD_BYTES)
 }
 
 // ---- the check of all records

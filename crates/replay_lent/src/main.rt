@@ -1,0 +1,12 @@
+// The replay program over a device record that is lent: each event alters it where it stands.
+// One byte more than the longest tape is enough to see that an input is too long.
+use libc::STDIN_FILENO;
+use libc::STDOUT_FILENO;
+
+fn main() {
+    let mut tape = [0u8; 4097];
+    let n = io::read_full(STDIN_FILENO, &mut tape);
+    let mut out = [0u8; 32768];
+    let r = transcript::lent_transcript(&tape[..n], &mut out);
+    io::write_all(STDOUT_FILENO, &out[..r]);
+}

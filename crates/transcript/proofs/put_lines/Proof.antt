@@ -1,0 +1,151 @@
+-- `transcript::put_lines` meets its contract. The loop's invariant is `Going`: the lines put and those of the records left make the whole text.
+-- The measure is how many records are left. Assumes nothing.
+use Prim.Native.Nat.{ℕ, _+_, _-_, _*_, _≤_, _<_}
+use mathlib.Core.Path.{_≡_, sym, _∙_}
+use mathlib.Core.Bool.{true}
+use mathlib.Core.List.{List, _++_}
+use native.Mathlib.Omega.{arith}
+use borrow.Author.Needs.{needs}
+use lib.ListN.{length, take, drop}
+use Rattle.device.specs.declared.Device.{Device}
+use Rattle.device.specs.declared.Event.{Event}
+use Rattle.device.specs.declared.Refusal.{Refusal}
+use Rattle.device.specs.declared.Stepped.{Stepped}
+use Rattle.device.specs.Events.{freshDevice, stepOf, inRange}
+use Rattle.tape.specs.declared.Decoded.the-variants.{Valid, Invalid}
+use Rattle.tape.specs.declared.Checked.the-variants.{Fine, Bad}
+use Rattle.tape.specs.Records.{records, recordAt, decoded, eventsOf}
+use Rattle.tape.proofs.Tapes.{check-bad}
+use Rattle.transcript.specs.Transcript.{stepLine, linesOf}
+use Rattle.transcript.proofs.Decoding.{sound, record-in}
+use Rattle.transcript.proofs.Printing.{Going, going-begins, going-fits, going-on, text-fits, text-long, text-put}
+use Rattle.transcript.proofs.put_lines.Statement.{statement}
+use Rattle.transcript.proofs.put_lines.Tie as tie
+
+abbrev Inv-loop : tie.InvT-loop
+Inv-loop tape out₀ lending n d₀ at₀ i₀ out d at i = Going tape out₀ n out d at i
+
+abbrev μ-loop : tie.MeasureT-loop
+μ-loop tape out₀ lending n d₀ at₀ i₀ out d at i = n - i
+
+module _ (tape out₀ : List ℕ) (short : length tape ≤ 4096) (fits : 32768 ≤ length out₀) (out : List ℕ) (d : Device) (at i : ℕ) (g : Going tape out₀ (records tape) out d at i) where
+  few : records tape ≤ 512
+  few = omega arith
+
+  -- past the last record
+  ended : records tape ≤ i
+      → (at ≡ length (linesOf 0 freshDevice (eventsOf tape))) × ((at ≤ length out) × (out ≡ linesOf 0 freshDevice (eventsOf tape) ++ drop at out₀))
+  ended h = let n = records tape in (text-long tape out₀ n out d at i g h few fits, (text-fits tape out₀ n out d at i g h few fits, text-put tape out₀ n out d at i g h few fits))
+
+  module _ (h : i < records tape) where
+    place : (at + 64 ≤ length out) × (i < 512)
+    place = let f = few in (going-fits tape out₀ (records tape) out d at i g h f fits, omega arith)
+
+    -- no record of a checked tape is refused
+    never : {X : Type 0} (r : Refusal) → recordAt tape i ≡ Invalid r → X
+    never r e =
+        let p : Bad r i ≡ Fine = sym (check-bad tape i (records tape) h r (sym (record-in tape i h) ∙ e)) ∙ g .clear in
+        let z : _≡_ {A = ℕ} 0 1 = cc in absurd (omega arith)
+
+    module _ (e : Event) (p : recordAt tape i ≡ Valid e) where
+      here : decoded tape (i * 8) ≡ Valid e
+      here = sym (record-in tape i h) ∙ p
+
+      in-range : inRange e ≡ true
+      in-range = sound tape (i * 8) e here .range
+
+      turned : (s : Stepped) → s ≡ stepOf d e → (r : ℕ) (after : List ℕ) → r ≡ at + length (stepLine i s) → r ≤ at + 64 → after ≡ (take at out ++ stepLine i s) ++ drop r out
+          → Going tape out₀ (records tape) after (s .device) r (i + 1)
+      turned s q r after to most put =
+          let f = few in
+          rw q (going-on tape out₀ (records tape) out d at i g h f fits e here r after (rw q at to) most (rw q at put))
+
+fresh-requires : tie.Need-fresh-requires Inv-loop μ-loop
+fresh-requires c κs = search needs
+
+loop-holds : tie.Need-loop-holds Inv-loop μ-loop
+loop-holds c =
+    let start = c .before .before .before in
+    going-begins (start .args .tape .now) (start .args .out .now) (records (start .args .tape .now)) _ (c .fresh .ensures) (start .pre .1 .0)
+
+record-at-requires : tie.Need-record-at-requires Inv-loop μ-loop
+record-at-requires c κs = search needs
+
+enum-known-x : tie.Need-enum-known-x Inv-loop μ-loop
+enum-known-x c = search needs
+
+enum-told : tie.Need-enum-told Inv-loop μ-loop
+enum-told c = search needs
+
+same-length : tie.Need-same-length Inv-loop μ-loop
+same-length c = c .before .before .before .before .loop .inv .long
+
+returns : tie.Need-returns Inv-loop μ-loop
+returns c =
+    let top = c .before .before .before .before in
+    let start = top .before .before .before .before in
+    never (start .args .tape .now) (start .args .out .now) (start .pre .0) (start .pre .1 .1) (top .loop .out) (top .loop .d) (top .loop .at) (top .loop .i) (top .loop .inv) (c .before .before .before .loop-test .taken)
+    _ (sym (c .before .before .record-at .ensures) ∙ c .enum-told .given .1)
+
+step-requires : tie.Need-step-requires Inv-loop μ-loop
+step-requires c κs =
+    let read = c .before .before .before in
+    let top = read .before .before in
+    let start = top .before .before .before .before in (
+      top .loop .inv .rule,
+      in-range (start .args .tape .now) (start .args .out .now) (start .pre .0) (start .pre .1 .1) (top .loop .out) (top .loop .d) (top .loop .at) (top .loop .i) (top .loop .inv) (read .before .loop-test .taken)
+          _ (sym (read .record-at .ensures) ∙ c .before .x .given .1),
+    )
+
+put-line-requires : tie.Need-put-line-requires Inv-loop μ-loop
+put-line-requires c κs =
+    let test = c .before .before .before .before .before .before in
+    let top = test .before in
+    let start = top .before .before .before .before in
+    place (start .args .tape .now) (start .args .out .now) (start .pre .0) (start .pre .1 .1) (top .loop .out) (top .loop .d) (top .loop .at) (top .loop .i) (top .loop .inv) (test .loop-test .taken)
+
+add-i : tie.Need-add-i Inv-loop μ-loop
+add-i c = omega arith
+
+loop-less : tie.Need-loop-less Inv-loop μ-loop
+loop-less c = omega arith
+
+loop-again : tie.Need-loop-again Inv-loop μ-loop
+loop-again c =
+    let line = c .before .before .before in
+    let step = line .before .before in
+    let read = step .before .before .before .before in
+    let top = read .before .before in
+    let start = top .before .before .before .before in
+    turned (start .args .tape .now) (start .args .out .now) (start .pre .0) (start .pre .1 .1) (top .loop .out) (top .loop .d) (top .loop .at) (top .loop .i) (top .loop .inv) (read .before .loop-test .taken)
+    _ (sym (read .record-at .ensures) ∙ step .before .before .x .given .1) _ (step .step .ensures) _ _ (line .put-line .ensures .0) (line .put-line .ensures .1 .0) (line .put-line .ensures .1 .1)
+
+same-length-2 : tie.Need-same-length-2 Inv-loop μ-loop
+same-length-2 c = c .before .loop .inv .long
+
+returns-2 : tie.Need-returns-2 Inv-loop μ-loop
+returns-2 c =
+    let top = c .before in
+    let start = top .before .before .before .before in
+    ended (start .args .tape .now) (start .args .out .now) (start .pre .0) (start .pre .1 .1) (top .loop .out) (top .loop .d) (top .loop .at) (top .loop .i) (top .loop .inv) (c .loop-test .left)
+
+pub put-lines-spec : {M : Type 1} → statement M
+put-lines-spec =
+    tie.close
+    (tie.spec
+    Inv-loop
+    μ-loop
+    fresh-requires
+    loop-holds
+    record-at-requires
+    enum-known-x
+    enum-told
+    same-length
+    returns
+    step-requires
+    put-line-requires
+    add-i
+    loop-less
+    loop-again
+    same-length-2
+    returns-2)

@@ -1,0 +1,2 @@
+-- The text of the replay program for a whole tape.
+pub mod Transcript

@@ -1,0 +1,49 @@
+-- Document 01, "The replay program": its whole text for a tape, as bytes, and that text in a buffer.
+use Prim.Native.Nat.{ℕ, _+_, _*_, _/_, _%_}
+use mathlib.Core.Bool.{cond}
+use mathlib.Core.List.{List, [], _∷_, _++_}
+use lib.Dec.{eqb, ltb}
+use lib.ListN.{length, drop}
+use Rattle.device.specs.declared.Device.{Device}
+use Rattle.device.specs.declared.Event.{Event}
+use Rattle.device.specs.declared.Stepped.{Stepped}
+use Rattle.device.specs.Events.{freshDevice, stepOf, irqOf, outputsOf}
+use Rattle.text.specs.Lines.{lineOf, refusedLine}
+use Rattle.tape.specs.Records.{records, eventsOf}
+use Rattle.tape.specs.Answers.{answerBytes}
+use Rattle.tape.specs.Runs.{tapeResult}
+
+-- ---- the lines of an accepted tape
+-- "one line a record": its answer and its timeout counts, and IRQ and outputs after it
+unfoldable pub stepLine : ℕ → Stepped → List ℕ
+stepLine i s = lineOf i (s .answer) (irqOf (s .device)) (outputsOf (s .device)) (s .timeouts)
+
+-- the lines of events one after the other from a device, the first of index i
+unfoldable pub linesOf : ℕ → Device → List Event → List ℕ
+linesOf i d [] = []
+linesOf i d (e ∷ es) = stepLine i (stepOf d e) ++ linesOf (i + 1) (stepOf d e .device) es
+
+-- ---- the whole text
+-- 0, or 256 × index + number of a refused tape. The answers have all the room they need, so refusal 9 is never given; "input longer than 4,096 bytes is refusal 4".
+unfoldable pub verdict : List ℕ → ℕ
+verdict tape = tapeResult tape (answerBytes * records tape)
+
+-- "It reads a tape from standard input, starts fresh, and prints one line a record, no header"; "A refused tape prints only `refused N INDEX`"; "An empty input prints nothing."
+unfoldable pub transcriptOf : List ℕ → List ℕ
+transcriptOf tape =
+    cond (eqb (verdict tape) 0)
+    (linesOf 0 freshDevice (eventsOf tape))
+    (refusedLine (verdict tape % 256) (verdict tape / 256))
+
+-- ---- the text in a buffer
+-- room for every transcript: 512 lines of at most 64 bytes
+abbrev pub enough : ℕ
+enough = 32768
+
+-- a text at the start of a buffer, the rest as it was; a buffer that is too short for some transcript stays as it was
+unfoldable pub printed : List ℕ → List ℕ → List ℕ
+printed text out = cond (ltb (length out) enough) out (text ++ drop (length text) out)
+
+-- how many bytes were printed
+unfoldable pub printedLength : List ℕ → List ℕ → ℕ
+printedLength text out = cond (ltb (length out) enough) 0 (length text)

@@ -1,0 +1,141 @@
+// The whole text of the replay program for a tape, at the start of a buffer that the caller lends.
+// The text stands in specs/Transcript.antt. A buffer of 32,768 bytes holds the text of every tape;
+// a shorter one stays as it was.
+use device::Answer;
+use device::Device;
+use device::Event;
+use device::Outcome;
+use device::Stepped;
+use device::Timeouts;
+use tape::Decoded;
+ghost use mathlib.Core.Path.{_≡_};
+ghost use mathlib.Core.Bool.{true};
+ghost use mathlib.Core.List.{_++_};
+ghost use Prim.Native.Nat.{_+_, _≤_, _<_};
+ghost use lib.ListN.{length, take, drop};
+ghost use Rattle.device.specs.Events.{freshDevice, stepOf, imageRule, inRange};
+ghost use Rattle.text.specs.Lines.{Counts};
+ghost use Rattle.tape.specs.declared.Checked.the-variants.{Fine};
+ghost use Rattle.tape.specs.Records.{records, firstBad, eventsOf};
+ghost use Rattle.transcript.specs.Transcript.{stepLine, linesOf, transcriptOf, enough, printed, printedLength};
+
+// 512 lines of at most 64 bytes.
+const ENOUGH: usize = 32768;
+
+const LINE_MOST: usize = 64;
+
+// 512 answers of 22 bytes.
+const ANSWERS_MOST: usize = 11264;
+
+// One event through the record lent. It is never refused, since the record keeps the image rule and
+// the operands are in range.
+fn lent_step(d: Device, e: Event) -> Stepped
+    requires { ⌜ imageRule d ≡ true ⌝ }
+    requires { ⌜ inRange e ≡ true ⌝ }
+    ensures { λ r. ⌜ r ≡ stepOf d e ⌝ }
+{
+    let h = lent::event_by_value(d, e);
+    let o = h.outcome;
+    let Outcome::Answered(a, n) = o else {
+        return Stepped {
+            device: d,
+            answer: Answer::Done,
+            timeouts: Timeouts::zero(),
+        };
+    };
+    let after = h.device;
+    Stepped {
+        device: after,
+        answer: a,
+        timeouts: n,
+    }
+}
+
+// One event, of a record lent or by value.
+fn step(d: Device, e: Event, lending: bool) -> Stepped
+    requires { ⌜ imageRule d ≡ true ⌝ }
+    requires { ⌜ inRange e ≡ true ⌝ }
+    ensures { λ r. ⌜ r ≡ stepOf d e ⌝ }
+{
+    if lending {
+        return lent_step(d, e);
+    }
+    d.step(e)
+}
+
+// Puts the line of record i at index `at`, and returns the index after it.
+fn put_line(out: &mut [u8], at: usize, i: usize, s: Stepped) -> usize
+    requires { ⌜ at + 64 ≤ length (now out) ⌝ }
+    requires { ⌜ i < 512 ⌝ }
+    ensures { λ r. ⌜ r ≡ at + length (stepLine i s) ⌝ }
+    ensures { λ r. ⌜ r ≤ at + 64 ⌝ }
+    ensures { λ r. ⌜ now (out .exit) ≡ (take at (now (out .entry)) ++ stepLine i s) ++ drop r (now (out .entry)) ⌝ }
+{
+    let end = at + LINE_MOST;
+    let d = s.device;
+    let a = s.answer;
+    let n = s.timeouts;
+    let irq = d.irq();
+    let outputs = d.outputs();
+    at + text::line(&mut out[at..end], i as u16, a, irq, outputs, n)
+}
+
+// Puts the lines of a checked tape, and returns the index after them.
+fn put_lines(tape: &[u8], out: &mut [u8], lending: bool) -> usize
+    requires { ⌜ length (now tape) ≤ 4096 ⌝ }
+    requires { ⌜ firstBad (now tape) 0 (records (now tape)) ≡ Fine ⌝ }
+    requires { ⌜ enough ≤ length (now out) ⌝ }
+    ensures { λ r. ⌜ r ≡ length (linesOf 0 freshDevice (eventsOf (now (tape .entry)))) ⌝ }
+    ensures { λ r. ⌜ r ≤ length (now (out .exit)) ⌝ }
+    ensures { λ r. ⌜ now (out .exit) ≡ linesOf 0 freshDevice (eventsOf (now (tape .entry))) ++ drop r (now (out .entry)) ⌝ }
+{
+    let n = tape.len() / tape::RECORD_BYTES;
+    let mut d = Device::fresh();
+    let mut at = 0;
+    let mut i = 0;
+    while i < n {
+        let x = tape::record_at(tape, i);
+        let Decoded::Valid(e) = x else {
+            return 0;
+        };
+        let s = step(d, e, lending);
+        at = put_line(out, at, i, s);
+        d = s.device;
+        i += 1;
+    }
+    at
+}
+
+// The text of a tape, with each event's record lent or by value.
+fn print(tape: &[u8], out: &mut [u8], lending: bool) -> usize
+    ensures { λ r. ⌜ r ≡ printedLength (transcriptOf (now (tape .entry))) (now (out .entry)) ⌝ }
+    ensures { λ _. ⌜ now (out .exit) ≡ printed (transcriptOf (now (tape .entry))) (now (out .entry)) ⌝ }
+    ensures { λ r. ⌜ Counts r (now (out .exit)) ⌝ }
+{
+    if out.len() < ENOUGH {
+        return 0;
+    }
+    let c = tape::check(tape, ANSWERS_MOST);
+    if c != 0 {
+        return text::refused(out, (c % 256) as u8, (c / 256 % 65536) as u16);
+    }
+    put_lines(tape, out, lending)
+}
+
+// Writes what the replay program prints for a tape, and returns its length.
+pub fn transcript(tape: &[u8], out: &mut [u8]) -> usize
+    ensures { λ r. ⌜ r ≡ printedLength (transcriptOf (now (tape .entry))) (now (out .entry)) ⌝ }
+    ensures { λ _. ⌜ now (out .exit) ≡ printed (transcriptOf (now (tape .entry))) (now (out .entry)) ⌝ }
+    ensures { λ r. ⌜ Counts r (now (out .exit)) ⌝ }
+{
+    print(tape, out, false)
+}
+
+// The same, with every event through the device record lent.
+pub fn lent_transcript(tape: &[u8], out: &mut [u8]) -> usize
+    ensures { λ r. ⌜ r ≡ printedLength (transcriptOf (now (tape .entry))) (now (out .entry)) ⌝ }
+    ensures { λ _. ⌜ now (out .exit) ≡ printed (transcriptOf (now (tape .entry))) (now (out .entry)) ⌝ }
+    ensures { λ r. ⌜ Counts r (now (out .exit)) ⌝ }
+{
+    print(tape, out, true)
+}

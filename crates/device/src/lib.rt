@@ -241,7 +241,7 @@ fn lines_raising(t: Timers, before: Lines, after: Lines) -> u8
     (before.aer ^ before.levels) & (after.aer ^ after.levels ^ 255) & (before.ddr ^ 255) & open
 }
 
-// The channels of TAI and TBI where they end a pulse.
+// The channels of TAI and TBI where they end a pulse: 6 and 3, those of lines 4 and 3.
 fn ends_of(t: Timers, before: Lines, after: Lines) -> u16
     ensures { λ r. ⌜ r ≡ pulseEnds t before after ⌝ }
 {
@@ -255,7 +255,9 @@ fn ends_of(t: Timers, before: Lines, after: Lines) -> u16
         b.measures_pulses(),
         ceases_active(before.tbi_is_active(), after.tbi_is_active()),
     );
-    only_if(ends_a, Channel(6)) | only_if(ends_b, Channel(3))
+    let by_tai = only_if(ends_a, interrupts::channel_of(Line(4)));
+    let by_tbi = only_if(ends_b, interrupts::channel_of(Line(3)));
+    by_tai | by_tbi
 }
 
 fn both(a: bool, b: bool) -> bool

@@ -146,7 +146,7 @@ pub fn load(image: &[u8]) -> Loaded
 }
 
 // The bytes of a device.
-fn bytes_of(d: Device) -> [u8; 32]
+fn bytes_of(d: Device) -> [u8; IMAGE_BYTES]
     ensures { λ r. ⌜ r ≡ imageOf d ⌝ }
 {
     let l = d.lines;

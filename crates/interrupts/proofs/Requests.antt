@@ -1,6 +1,6 @@
 -- Requests: the walk from channel 15 down, and IRQ as "some channel requests". Assumes nothing.
 use Prim.Native.Nat.{ℕ, zero, suc, _-_, _^_, _≤_, _<_}
-use mathlib.Core.Path.{_≡_, refl, sym, ap, _∙_}
+use mathlib.Core.Path.{_≡_, refl, sym, ap, ap₂, _∙_}
 use mathlib.Core.Bool.{Bool, true, false, cond, _&&_, _||_}
 use native.Mathlib.Omega.{arith}
 use lib.Bits.{bitAnd}
@@ -24,6 +24,11 @@ pub nobody : (i : Interrupts) (n : ℕ) → bitAnd (i .pending) (i .mask) ≡ 0 
 unfolding highestBelow
 nobody i zero h = refl
 nobody i (suc c) h = rw (none-requests i c h) (nobody i c h)
+
+-- whether a channel requests, of the two sets that the walk is handed
+pub asks-request : (i : Interrupts) (wanted service c : ℕ) → bitAnd (i .pending) (i .mask) ≡ wanted → i .service ≡ service → (has wanted c && ltb service (2 ^ c)) ≡ requests i c
+unfolding requests
+asks-request i wanted service c e f = ap₂ (λ (w s : ℕ). has w c && ltb s (2 ^ c)) (sym e) (sym f) ∙ ap (λ (b : Bool). b && ltb (i .service) (2 ^ c)) (has-and (i .pending) (i .mask) c)
 
 -- ---- one step of the walk
 pub walk-found : (i : Interrupts) (n : ℕ) → 1 ≤ n → requests i (n - 1) ≡ true → highestBelow n i ≡ By (channel (n - 1))

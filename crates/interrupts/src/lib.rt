@@ -2,9 +2,13 @@
 // is a u16 in which channel c is bit c. The rules stand in specs/Channels.antt and
 // specs/Interrupts.antt. A line number and a channel number are kept apart. Every function is total.
 ghost use mathlib.Core.Path.{_≡_};
-ghost use Prim.Native.Nat.{_<_};
-ghost use Rattle.interrupts.specs.Channels.{setOf, channelOf, half, withHalf};
-ghost use Rattle.interrupts.specs.Interrupts.{kept, S, enabledWritten, pendingWritten, serviceWritten, maskWritten, vectorWritten, clearInterrupts, raised, interruptRule, requests, highest, irq, given, acknowledged};
+ghost use Prim.Native.Nat.{_^_, _<_};
+ghost use mathlib.Core.Bool.{_&&_};
+ghost use lib.Bits.{bitAnd};
+ghost use lib.Dec.{ltb};
+ghost use Rattle.interrupts.specs.Channels.{has, setOf, channelOf, half, withHalf};
+ghost use Rattle.interrupts.specs.declared.Interrupts.{Interrupts as InterruptsT};
+ghost use Rattle.interrupts.specs.Interrupts.{kept, S, enabledWritten, pendingWritten, serviceWritten, maskWritten, vectorWritten, clearInterrupts, raised, interruptRule, highest, irq, given, acknowledged};
 
 // The number of a general-purpose line, 0 to 7.
 pub struct Line(pub u8);
@@ -102,6 +106,36 @@ fn software_end(vector: u8) -> bool
     vector / 8 % 2 == 1
 }
 
+// Whether channel c, one of the sixteen, is wanted and no channel equal to or above it in service.
+fn asks(wanted: u16, service: u16, c: u8) -> bool
+    requires { ⌜ c < 16 ⌝ }
+    ensures { λ r. ⌜ r ≡ (has wanted c && ltb service (2 ^ c)) ⌝ }
+{
+    if (wanted >> c) % 2 != 1 {
+        return false;
+    }
+    service < 1u16 << c
+}
+
+// The highest requesting channel of interrupts in which these are pending and unmasked, and these in
+// service: a walk from channel 15 down, spared where none is wanted. It takes the two sets alone, so
+// that a call copies no interrupts.
+fn search(wanted: u16, service: u16) -> Requesting
+    ensures { λ r. ⌜ ((i : InterruptsT) → bitAnd (i .pending) (i .mask) ≡ wanted → i .service ≡ service → r ≡ highest i) ⌝ }
+{
+    if wanted == 0 {
+        return Requesting::Nobody;
+    }
+    let mut c: u8 = 16;
+    while 0 < c {
+        c -= 1;
+        if asks(wanted, service, c) {
+            return Requesting::By(Channel(c));
+        }
+    }
+    Requesting::Nobody
+}
+
 impl Interrupts {
     pub fn clear() -> Interrupts
         ensures { λ r. ⌜ r ≡ clearInterrupts ⌝ }
@@ -185,36 +219,11 @@ impl Interrupts {
         self.service == 0
     }
 
-    // Whether channel c, one of the sixteen, requests.
-    fn asks(self, c: u8) -> bool
-        requires { ⌜ c < 16 ⌝ }
-        ensures { λ r. ⌜ r ≡ requests self c ⌝ }
-    {
-        if (self.pending >> c) % 2 != 1 {
-            return false;
-        }
-        if (self.mask >> c) % 2 != 1 {
-            return false;
-        }
-        self.service < 1u16 << c
-    }
-
-    // The highest requesting channel, by a walk from channel 15 down, which is spared where no
-    // channel is both pending and unmasked.
+    // The highest requesting channel.
     pub fn highest(self) -> Requesting
         ensures { λ r. ⌜ r ≡ highest self ⌝ }
     {
-        if self.pending & self.mask == 0 {
-            return Requesting::Nobody;
-        }
-        let mut c: u8 = 16;
-        while 0 < c {
-            c -= 1;
-            if self.asks(c) {
-                return Requesting::By(Channel(c));
-            }
-        }
-        Requesting::Nobody
+        search(self.pending & self.mask, self.service)
     }
 
     pub fn irq(self) -> bool

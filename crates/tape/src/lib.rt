@@ -198,7 +198,7 @@ fn check_records(tape: &[u8], n: usize) -> Checked
 {
     let mut i = 0;
     while i < n {
-        let d = decode(tape, i * 8);
+        let d = decode(tape, i * RECORD_BYTES);
         if let Decoded::Invalid(r) = d {
             return Checked::Bad(r, i);
         }
@@ -219,7 +219,7 @@ fn byte_if(b: bool) -> u8
 }
 
 // The 22 bytes of an answer.
-fn answer_bytes(s: Stepped) -> [u8; 22]
+fn answer_bytes(s: Stepped) -> [u8; ANSWER_BYTES]
     ensures { λ r. ⌜ r ≡ answerOf s ⌝ }
 {
     let d = s.device;
@@ -257,7 +257,7 @@ fn put_answer(s: Stepped, answers: &mut [u8], at: usize)
     ensures { λ _. ⌜ now (answers .exit) ≡ take at (now (answers .entry)) ++ answerOf s ++ drop (at + 22) (now (answers .entry)) ⌝ }
 {
     let b = answer_bytes(s);
-    let end = at + 22;
+    let end = at + ANSWER_BYTES;
     bytes::copy(&b, &mut answers[at..end]);
 }
 

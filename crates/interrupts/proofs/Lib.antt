@@ -2,5 +2,6 @@
 pub mod Tables
 pub mod Sets
 pub mod Requests
+pub mod Asserted
 pub mod Neighbours
 pub mod Rule

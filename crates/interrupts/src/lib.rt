@@ -152,55 +152,84 @@ impl Interrupts {
     pub fn write_enabled(self, h: Half, v: u8) -> Interrupts
         ensures { λ r. ⌜ r ≡ enabledWritten h v self ⌝ }
     {
-        let mut i = self;
-        i.enabled = with_half(h, self.enabled, v);
-        i.pending = keep(h, self.pending, v);
-        i
+        Interrupts {
+            enabled: with_half(h, self.enabled, v),
+            pending: keep(h, self.pending, v),
+            service: self.service,
+            mask: self.mask,
+            vector: self.vector,
+        }
     }
 
     pub fn write_pending(self, h: Half, v: u8) -> Interrupts
         ensures { λ r. ⌜ r ≡ pendingWritten h v self ⌝ }
     {
-        let mut i = self;
-        i.pending = keep(h, self.pending, v);
-        i
+        Interrupts {
+            enabled: self.enabled,
+            pending: keep(h, self.pending, v),
+            service: self.service,
+            mask: self.mask,
+            vector: self.vector,
+        }
     }
 
     pub fn write_service(self, h: Half, v: u8) -> Interrupts
         ensures { λ r. ⌜ r ≡ serviceWritten h v self ⌝ }
     {
-        let mut i = self;
-        i.service = keep(h, self.service, v);
-        i
+        Interrupts {
+            enabled: self.enabled,
+            pending: self.pending,
+            service: keep(h, self.service, v),
+            mask: self.mask,
+            vector: self.vector,
+        }
     }
 
     pub fn write_mask(self, h: Half, v: u8) -> Interrupts
         ensures { λ r. ⌜ r ≡ maskWritten h v self ⌝ }
     {
-        let mut i = self;
-        i.mask = with_half(h, self.mask, v);
-        i
+        Interrupts {
+            enabled: self.enabled,
+            pending: self.pending,
+            service: self.service,
+            mask: with_half(h, self.mask, v),
+            vector: self.vector,
+        }
     }
 
     pub fn write_vector(self, v: u8) -> Interrupts
         ensures { λ r. ⌜ r ≡ vectorWritten v self ⌝ }
     {
-        let mut i = self;
-        i.vector = v / 8 * 8;
+        let vector = v / 8 * 8;
         if software_end(v) {
-            return i;
+            return Interrupts {
+                enabled: self.enabled,
+                pending: self.pending,
+                service: self.service,
+                mask: self.mask,
+                vector: vector,
+            };
         }
-        i.service = 0;
-        i
+        Interrupts {
+            enabled: self.enabled,
+            pending: self.pending,
+            service: 0,
+            mask: self.mask,
+            vector: vector,
+        }
     }
 
     // Raises each channel of a set.
     pub fn raise(self, s: u16) -> Interrupts
         ensures { λ r. ⌜ r ≡ raised s self ⌝ }
     {
-        let mut i = self;
-        i.pending = self.pending | s & self.enabled;
-        i
+        Interrupts {
+            enabled: self.enabled,
+            pending: self.pending | s & self.enabled,
+            service: self.service,
+            mask: self.mask,
+            vector: self.vector,
+        }
     }
 
     pub fn keeps_rule(self) -> bool
@@ -226,14 +255,13 @@ impl Interrupts {
         search(self.pending & self.mask, self.service)
     }
 
+    // Some channel requests: the wanted channels that are not themselves in service, taken as a number,
+    // exceed those in service, since then their highest stands above all of these.
     pub fn irq(self) -> bool
         ensures { λ r. ⌜ r ≡ irq self ⌝ }
     {
-        let r = self.highest();
-        match r {
-            Requesting::By(_) => true,
-            Requesting::Nobody => false,
-        }
+        let wanted = self.pending & self.mask;
+        self.service < wanted & (wanted ^ self.service)
     }
 
     // The interrupts once channel c has given its vector.
@@ -241,12 +269,23 @@ impl Interrupts {
         ensures { λ r. ⌜ r ≡ given c self ⌝ }
     {
         let bit = set_of(c);
-        let mut i = self;
-        i.pending = self.pending & 65535 - bit;
+        let pending = self.pending & 65535 - bit;
         if software_end(self.vector) {
-            i.service = self.service | bit;
+            return Interrupts {
+                enabled: self.enabled,
+                pending: pending,
+                service: self.service | bit,
+                mask: self.mask,
+                vector: self.vector,
+            };
         }
-        i
+        Interrupts {
+            enabled: self.enabled,
+            pending: pending,
+            service: self.service,
+            mask: self.mask,
+            vector: self.vector,
+        }
     }
 
     pub fn acknowledge(self, iei: bool) -> Acknowledged

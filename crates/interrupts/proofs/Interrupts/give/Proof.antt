@@ -8,8 +8,8 @@ use Rattle.interrupts.proofs.Interrupts.give.Tie as tie
 set-of-requires : tie.Need-set-of-requires
 set-of-requires c κs = search needs
 
-sub-i : tie.Need-sub-i
-sub-i c = search needs
+sub-pending : tie.Need-sub-pending
+sub-pending c = search needs
 
 software-end-requires : tie.Need-software-end-requires
 software-end-requires c κs = search needs
@@ -23,4 +23,4 @@ unfolding given
 returns-2 c = rw (sym (c .before .software-end .ensures) ∙ c .if1 .left, ← c .before .before .before .set-of .ensures) refl
 
 pub give-spec : {M : Type 1} → statement M
-give-spec = tie.close (tie.spec set-of-requires sub-i software-end-requires returns returns-2)
+give-spec = tie.close (tie.spec set-of-requires sub-pending software-end-requires returns returns-2)

@@ -5,8 +5,8 @@ use Rattle.interrupts.specs.Interrupts.{vectorWritten}
 use Rattle.interrupts.proofs.Interrupts.write_vector.Statement.{statement}
 use Rattle.interrupts.proofs.Interrupts.write_vector.Tie as tie
 
-mul-i : tie.Need-mul-i
-mul-i c = search needs
+mul-vector : tie.Need-mul-vector
+mul-vector c = search needs
 
 software-end-requires : tie.Need-software-end-requires
 software-end-requires c κs = search needs
@@ -20,4 +20,4 @@ unfolding vectorWritten
 returns-2 c = rw (sym (c .before .software-end .ensures) ∙ c .if1 .left) refl
 
 pub write-vector-spec : {M : Type 1} → statement M
-write-vector-spec = tie.close (tie.spec mul-i software-end-requires returns returns-2)
+write-vector-spec = tie.close (tie.spec mul-vector software-end-requires returns returns-2)

@@ -92,3 +92,30 @@ pub times-after : (period n first : ℕ) → 1 ≤ period → 1 ≤ first → fi
 unfolding ranOut
 times-after period zero first p q h = absurd (omega arith)
 times-after period (suc n) first p q h = times-step period n first p q h (λ f a b. times-after period n f p a b)
+
+-- ---- whether it has or not, for a countdown that is at most its period above what the units take
+-- As if it had set out a period earlier: one more run-out than there were, and as much left.
+module _ (period n first : ℕ) (p : 1 ≤ period) (q : 1 ≤ first) (h : first ≤ n + period) where
+  pub left-either : left period n first ≡ period - (n + period - first) % period
+  left-either = go (ltb n first) refl
+    where
+      go : (b : Bool) → ltb n first ≡ b → left period n first ≡ period - (n + period - first) % period
+      go true e =
+          let l : n < first = ltb-true n first e in
+          let m : (n + period - first) % period ≡ n + period - first = mod-eq-of-lt (omega arith) in
+          left-before period n first l ∙ omega arith
+      go false e =
+          let l : first ≤ n = ltb-false n first e in
+          left-after period n first p q l
+          ∙ ap (λ (m : ℕ). period - m) (ap (λ (m : ℕ). m % period) (omega arith) ∙ sym (mod-eq-sub-mod {m = period} (omega arith)))
+
+  pub times-either : ranOut period n first ≡ (n + period - first) / period
+  times-either = go (ltb n first) refl
+    where
+      go : (b : Bool) → ltb n first ≡ b → ranOut period n first ≡ (n + period - first) / period
+      go true e = let l : n < first = ltb-true n first e in none-before period n first l ∙ sym (div-eq-of-lt (omega arith))
+      go false e =
+          let l : first ≤ n = ltb-false n first e in
+          times-after period n first p q l
+          ∙ ap (λ (m : ℕ). m / period + 1) (omega arith)
+          ∙ sym (div-eq-sub-div {m = period} p (omega arith))

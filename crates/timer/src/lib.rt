@@ -16,6 +16,12 @@ pub struct Timer {
     pub output: bool,
 }
 
+// A timer after some clocks, and the timeouts that they made.
+pub struct Clocked {
+    pub timer: Timer,
+    pub timeouts: u32,
+}
+
 // A countdown after some units: how often it ran out, and after how many units it next will.
 struct Counted {
     times: u32,
@@ -36,22 +42,27 @@ struct Down {
 
 const DIVISORS: [u8; 8] = [0, 4, 10, 16, 50, 64, 100, 200];
 
-// n units of a countdown that has `first` units left and starts anew from `period`.
+// n units of a countdown that has `first` units left and starts anew from `period`. It divides
+// whatever n is, so that a long span costs what a short one costs; only a countdown that starts above
+// its period may have run for nothing.
 fn count(first: u32, period: u32, n: u32) -> Counted
     requires { ⌜ 1 ≤ first ⌝ }
     requires { ⌜ 1 ≤ period ⌝ }
     ensures { λ r. ⌜ (r .times ≡ ranOut period n first) × (r .left ≡ left period n first) ⌝ }
 {
-    if n < first {
+    let p = period as u64;
+    let f = first as u64;
+    let ahead = n as u64 + p;
+    if ahead < f {
         return Counted {
             times: 0,
             left: first - n,
         };
     }
-    let over = n - first;
+    let over = ahead - f;
     Counted {
-        times: over / period + 1,
-        left: period - over % period,
+        times: (over / p) as u32,
+        left: period - (over % p) as u32,
     }
 }
 
@@ -165,18 +176,31 @@ impl Timer {
     pub fn pulse(self) -> Timer
         ensures { λ r. ⌜ r ≡ pulsed self ⌝ }
     {
-        let mut t = self;
         if self.counter == 1 {
-            t.counter = self.reload;
-            t.output = !self.output;
-            return t;
+            return Timer {
+                mode: self.mode,
+                reload: self.reload,
+                counter: self.reload,
+                position: self.position,
+                output: !self.output,
+            };
         }
         if self.counter == 0 {
-            t.counter = 255;
-            return t;
+            return Timer {
+                mode: self.mode,
+                reload: self.reload,
+                counter: 255,
+                position: self.position,
+                output: self.output,
+            };
         }
-        t.counter = self.counter - 1;
-        t
+        Timer {
+            mode: self.mode,
+            reload: self.reload,
+            counter: self.counter - 1,
+            position: self.position,
+            output: self.output,
+        }
     }
 
     // One clock.
@@ -221,63 +245,80 @@ impl Timer {
         }
     }
 
-    // n clocks at once.
-    pub fn advanced(self, active: bool, n: u32) -> Timer
-        ensures { λ r. ⌜ r ≡ clocks active n self ⌝ }
+    // n clocks at once, and the timeouts that they make.
+    pub fn clocks(self, active: bool, n: u32) -> Clocked
+        ensures { λ r. ⌜ (r .timer ≡ clocks active n self) × (r .timeouts ≡ timeouts active n self) ⌝ }
     {
         if n == 0 {
-            return self;
+            return Clocked {
+                timer: self,
+                timeouts: 0,
+            };
         }
         if !self.goes(active) {
-            return self;
+            return Clocked {
+                timer: self,
+                timeouts: 0,
+            };
         }
         let a = self.along(n);
         let k = self.down(a.pulses);
-        Timer {
+        let t = Timer {
             mode: self.mode,
             reload: self.reload,
             counter: k.counter,
             position: a.position,
             output: toggled_by(k.timeouts, self.output),
+        };
+        Clocked {
+            timer: t,
+            timeouts: k.timeouts,
         }
-    }
-
-    // The timeouts that n clocks make.
-    pub fn timeouts(self, active: bool, n: u32) -> u32
-        ensures { λ r. ⌜ r ≡ timeouts active n self ⌝ }
-    {
-        if !self.goes(active) {
-            return 0;
-        }
-        let a = self.along(n);
-        let k = self.down(a.pulses);
-        k.timeouts
     }
 
     // A control write of this mode; `low` forces the output low.
     pub fn control(self, mode: u8, low: bool) -> Timer
         ensures { λ r. ⌜ r ≡ controlled mode low self ⌝ }
     {
-        let mut t = self;
-        t.output = unless(low, self.output);
+        let output = unless(low, self.output);
         if mode == self.mode {
-            return t;
+            return Timer {
+                mode: self.mode,
+                reload: self.reload,
+                counter: self.counter,
+                position: self.position,
+                output: output,
+            };
         }
-        t.mode = mode;
-        t.position = 0;
-        t
+        Timer {
+            mode: mode,
+            reload: self.reload,
+            counter: self.counter,
+            position: 0,
+            output: output,
+        }
     }
 
     // A write of the data value.
     pub fn write(self, v: u8) -> Timer
         ensures { λ r. ⌜ r ≡ reloadWritten v self ⌝ }
     {
-        let mut t = self;
-        t.reload = v;
         if self.mode == 0 {
-            t.counter = v;
+            return Timer {
+                mode: self.mode,
+                reload: v,
+                counter: v,
+                position: self.position,
+                output: self.output,
+            };
         }
-        t
+        Timer {
+            mode: self.mode,
+            reload: v,
+            counter: self.counter,
+            position: self.position,
+            output: self.output,
+        }
     }
 
     // Its part of the image rule.

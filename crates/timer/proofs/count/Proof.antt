@@ -1,38 +1,48 @@
 -- `timer::count` meets its contract: each way out is the countdown's closed form. Assumes nothing.
-use Prim.Native.Nat.{ℕ, _-_, _/_, _≤_, suc}
+use Prim.Native.Nat.{_+_, _-_, _*_, _<_}
 use mathlib.Core.Path.{sym}
 use borrow.Author.Needs.{needs}
-use native.Mathlib.Nat.{div-le-self, mod-lt, le-of-lt}
+use native.Mathlib.Nat.{div-lt-iff-lt-mul, mod-lt, le-of-lt}
 use native.Mathlib.Omega.{arith}
-use Rattle.timer.proofs.Countdowns.{left-before, none-before, left-after, times-after}
+use Rattle.timer.proofs.Countdowns.{left-before, none-before, left-either, times-either}
 use Rattle.timer.proofs.count.Statement.{statement}
 use Rattle.timer.proofs.count.Tie as tie
 
-sub-t6 : tie.Need-sub-t6
-sub-t6 c = search needs
+add-ahead : tie.Need-add-ahead
+add-ahead c = search needs
+
+sub-t10 : tie.Need-sub-t10
+sub-t10 c = search needs
 
 returns : tie.Need-returns
 returns c =
     let a = c .before .args in
-    (sym (none-before (a .period) (a .n) (a .first) (c .if1 .taken)), sym (left-before (a .period) (a .n) (a .first) (c .if1 .taken)))
+    let h : a .n < a .first = omega arith in
+    (sym (none-before (a .period) (a .n) (a .first) h), sym (left-before (a .period) (a .n) (a .first) h))
 
-div-t7 : tie.Need-div-t7
-div-t7 c = search needs
+div-t8 : tie.Need-div-t8
+div-t8 c = search needs
 
-add-t8 : tie.Need-add-t8
-add-t8 c = let a = c .before .args in omega (arith, div-le-self (a .n - a .first) (a .period))
+cast-t11 : tie.Need-cast-t11
+cast-t11 c =
+    let a = c .before .args in
+    let h : a .n + a .period - a .first < 4294967296 * a .period = omega arith in
+    omega (arith, div-lt-iff-lt-mul {k = a .period} (c .before .pre .1) .1 h)
 
-rem-t9 : tie.Need-rem-t9
-rem-t9 c = search needs
+rem-t12 : tie.Need-rem-t12
+rem-t12 c = search needs
 
-sub-t10 : tie.Need-sub-t10
-sub-t10 c = let a = c .before .args in le-of-lt (mod-lt (a .n - a .first) (c .before .pre .1))
+cast-t13 : tie.Need-cast-t13
+cast-t13 c = let a = c .before .args in omega (arith, mod-lt (a .n + a .period - a .first) (c .before .pre .1))
+
+sub-t14 : tie.Need-sub-t14
+sub-t14 c = let a = c .before .args in le-of-lt (mod-lt (a .n + a .period - a .first) (c .before .pre .1))
 
 returns-2 : tie.Need-returns-2
 returns-2 c =
     let a = c .before .args in
     let p = c .before .pre in
-    (sym (times-after (a .period) (a .n) (a .first) (p .1) (p .0) (c .if1 .left)), sym (left-after (a .period) (a .n) (a .first) (p .1) (p .0) (c .if1 .left)))
+    (sym (times-either (a .period) (a .n) (a .first) (p .1) (p .0) (c .if1 .left)), sym (left-either (a .period) (a .n) (a .first) (p .1) (p .0) (c .if1 .left)))
 
 pub count-spec : {M : Type 1} → statement M
-count-spec = tie.close (tie.spec sub-t6 returns div-t7 add-t8 rem-t9 sub-t10 returns-2)
+count-spec = tie.close (tie.spec add-ahead sub-t10 returns div-t8 cast-t11 rem-t12 cast-t13 sub-t14 returns-2)

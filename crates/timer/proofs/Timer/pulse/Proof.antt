@@ -13,12 +13,12 @@ returns-2 : tie.Need-returns-2
 unfolding pulsed reloaded countedDown
 returns-2 c = simp (ne-eqb _ _ (c .before .before .if1 .left), eq-eqb _ _ (c .if2 .taken))
 
-sub-t : tie.Need-sub-t
-sub-t c = search needs
+sub-t4 : tie.Need-sub-t4
+sub-t4 c = search needs
 
 returns-3 : tie.Need-returns-3
 unfolding pulsed reloaded countedDown
 returns-3 c = simp (ne-eqb _ _ (c .before .before .before .if1 .left), ne-eqb _ _ (c .before .if2 .left))
 
 pub pulse-spec : {M : Type 1} → statement M
-pulse-spec = tie.close (tie.spec returns returns-2 sub-t returns-3)
+pulse-spec = tie.close (tie.spec returns returns-2 sub-t4 returns-3)

@@ -20,6 +20,8 @@ use Rattle.device.specs.declared.Event.the-variants.{Reset, Read, Write,
 use Rattle.device.specs.declared.Answer.{Answer}
 use Rattle.device.specs.declared.Answer.the-variants.{Done, Data, Vector, PassedOn, Held}
 use Rattle.device.specs.declared.Stepped.{Stepped}
+use Rattle.device.specs.declared.Begun.{Begun}
+use Rattle.device.specs.declared.Begun.the-variants.{Signals, Whole}
 use Rattle.device.specs.declared.Refusal.{Refusal}
 use Rattle.device.specs.declared.Refusal.the-variants.{ImageLength, ImageMark, ImageRule, TapeLength, RecordMark, Kind, Operand, Serial, AnswerLength}
 use Rattle.device.specs.declared.Outcome.{Outcome}
@@ -77,6 +79,11 @@ stepOf d (Input i high) = record { device = signalled (withInput i high (d .line
 stepOf d (Clocks n) = record { device = clocksDevice n d; answer = Done; timeouts = timeoutsDevice n d }
 stepOf d (Acknowledge iei) = record { device = withInterrupts (acknowledged iei (d .interrupts) .interrupts) d; answer = answerOf (acknowledged iei (d .interrupts) .reply); timeouts = none }
 stepOf d (Raise c) = done (withInterrupts (raised (setOf c) (d .interrupts)) d)
+
+-- ---- for private functions: what an event comes to that is begun up to its signals, or whole
+abbrev pub finished : Begun → Device → Stepped
+finished (Signals after) d = record { device = signalled after d; answer = Done; timeouts = signalTimeouts after d }
+finished (Whole s) d = s
 
 -- ---- this paper's number and value for each case of an answer
 -- "class (0 done, 1 data, 2 vector, 3 passed on, 4 held)"

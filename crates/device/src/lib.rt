@@ -17,7 +17,7 @@ ghost use Rattle.device.specs.declared.Register.the-variants.{Tcdcr};
 ghost use Rattle.device.specs.Signals.{active, becomes, ceases, taiActive, tbiActive, onlyIf, channelsOf, timeoutChannels, lineRaises, pulseEnds, countsA, countsB, heard, signalled, signalTimeouts, withLevel, withInput, withAer};
 ghost use Rattle.device.specs.Clocks.{none};
 ghost use Rattle.device.specs.Registers.{readOf, writeOf, withLines, withInterrupts, withA, withB, withC, withD};
-ghost use Rattle.device.specs.Events.{resetDevice, freshDevice, irqOf, bit, outputsOf, done, stepOf, answerOf, classOf, valueOf, imageRule, numberOf, inRange, handledOf};
+ghost use Rattle.device.specs.Events.{resetDevice, freshDevice, irqOf, bit, outputsOf, done, stepOf, finished, answerOf, classOf, valueOf, imageRule, numberOf, inRange, handledOf};
 
 pub struct Lines {
     pub gpdr: u8,
@@ -95,6 +95,12 @@ pub struct Stepped {
     pub device: Device,
     pub answer: Answer,
     pub timeouts: Timeouts,
+}
+
+// An event begun: up to its signals, which are to become those of these lines, or whole.
+enum Begun {
+    Signals(Lines),
+    Whole(Stepped),
 }
 
 // The nine refusals, in the paper's order.
@@ -309,6 +315,20 @@ fn pulse_if(b: bool, t: Timer) -> Timer
     t
 }
 
+// The timer as it is, written out field by field: the compiler then holds its fields apart, which a
+// copy of the whole would tie together in every event.
+fn unchanged(t: Timer) -> Timer
+    ensures { λ r. ⌜ r ≡ t ⌝ }
+{
+    Timer {
+        mode: t.mode,
+        reload: t.reload,
+        counter: t.counter,
+        position: t.position,
+        output: t.output,
+    }
+}
+
 // ---- the device
 
 impl Device {
@@ -477,9 +497,12 @@ impl Device {
             d: 0,
         };
         let by_lines = channels_of(lines_raising(t, before, after)) | ends_of(t, before, after);
-        let mut u = t;
-        u.a = pulse_if(counts_a, a);
-        u.b = pulse_if(counts_b, b);
+        let u = Timers {
+            a: pulse_if(counts_a, a),
+            b: pulse_if(counts_b, b),
+            c: unchanged(t.c),
+            d: unchanged(t.d),
+        };
         let d = Device {
             lines: after,
             interrupts: i.raise(by_lines | n.channels()),
@@ -505,17 +528,25 @@ impl Device {
         let d = t.d;
         let tai = l.tai_is_active();
         let tbi = l.tbi_is_active();
+        let of_a = a.clocks(tai, n);
+        let of_b = b.clocks(tbi, n);
+        let of_c = c.clocks(false, n);
+        let of_d = d.clocks(false, n);
         let m = Timeouts {
-            a: a.timeouts(tai, n),
-            b: b.timeouts(tbi, n),
-            c: c.timeouts(false, n),
-            d: d.timeouts(false, n),
+            a: of_a.timeouts,
+            b: of_b.timeouts,
+            c: of_c.timeouts,
+            d: of_d.timeouts,
         };
+        let next_a = of_a.timer;
+        let next_b = of_b.timer;
+        let next_c = of_c.timer;
+        let next_d = of_d.timer;
         let u = Timers {
-            a: a.advanced(tai, n),
-            b: b.advanced(tbi, n),
-            c: c.advanced(false, n),
-            d: d.advanced(false, n),
+            a: next_a,
+            b: next_b,
+            c: next_c,
+            d: next_d,
         };
         let after = Device {
             lines: l,
@@ -586,9 +617,9 @@ impl Device {
         with_d.with_c(c.control(v / 16 % 8, false))
     }
 
-    // A write of any register: its event, whole.
-    pub fn write(self, r: Register, v: u8) -> Stepped
-        ensures { λ s. ⌜ s ≡ stepOf self (Write r v) ⌝ }
+    // A write of any register, begun.
+    fn begin_write(self, r: Register, v: u8) -> Begun
+        ensures { λ b. ⌜ finished b self ≡ stepOf self (Write r v) ⌝ }
     {
         let mut l = self.lines;
         let i = self.interrupts;
@@ -600,29 +631,52 @@ impl Device {
         match r {
             Register::Gpdr => {
                 l.gpdr = v;
-                done_with(self.with_lines(l))
+                Begun::Whole(done_with(self.with_lines(l)))
             }
             Register::Aer => {
                 l.aer = v;
-                self.signal(l)
+                Begun::Signals(l)
             }
             Register::Ddr => {
                 l.ddr = v;
-                done_with(self.with_lines(l))
+                Begun::Whole(done_with(self.with_lines(l)))
             }
-            Register::Ier(h) => done_with(self.with_interrupts(i.write_enabled(h, v))),
-            Register::Ipr(h) => done_with(self.with_interrupts(i.write_pending(h, v))),
-            Register::Isr(h) => done_with(self.with_interrupts(i.write_service(h, v))),
-            Register::Imr(h) => done_with(self.with_interrupts(i.write_mask(h, v))),
-            Register::Vr => done_with(self.with_interrupts(i.write_vector(v))),
-            Register::Tacr => done_with(self.with_a(a.control(v % 16, v / 16 % 2 == 1))),
-            Register::Tbcr => done_with(self.with_b(b.control(v % 16, v / 16 % 2 == 1))),
-            Register::Tcdcr => done_with(self.write_tcdcr(v)),
-            Register::Tadr => done_with(self.with_a(a.write(v))),
-            Register::Tbdr => done_with(self.with_b(b.write(v))),
-            Register::Tcdr => done_with(self.with_c(c.write(v))),
-            Register::Tddr => done_with(self.with_d(d.write(v))),
+            Register::Ier(h) => Begun::Whole(done_with(self.with_interrupts(i.write_enabled(
+                h,
+                v,
+            )))),
+            Register::Ipr(h) => Begun::Whole(done_with(self.with_interrupts(i.write_pending(
+                h,
+                v,
+            )))),
+            Register::Isr(h) => Begun::Whole(done_with(self.with_interrupts(i.write_service(
+                h,
+                v,
+            )))),
+            Register::Imr(h) => Begun::Whole(done_with(self.with_interrupts(i.write_mask(h, v)))),
+            Register::Vr => Begun::Whole(done_with(self.with_interrupts(i.write_vector(v)))),
+            Register::Tacr => Begun::Whole(done_with(self.with_a(a.control(
+                v % 16,
+                v / 16 % 2 == 1,
+            )))),
+            Register::Tbcr => Begun::Whole(done_with(self.with_b(b.control(
+                v % 16,
+                v / 16 % 2 == 1,
+            )))),
+            Register::Tcdcr => Begun::Whole(done_with(self.write_tcdcr(v))),
+            Register::Tadr => Begun::Whole(done_with(self.with_a(a.write(v)))),
+            Register::Tbdr => Begun::Whole(done_with(self.with_b(b.write(v)))),
+            Register::Tcdr => Begun::Whole(done_with(self.with_c(c.write(v)))),
+            Register::Tddr => Begun::Whole(done_with(self.with_d(d.write(v)))),
         }
+    }
+
+    // A write of any register: its event, whole.
+    pub fn write(self, r: Register, v: u8) -> Stepped
+        ensures { λ s. ⌜ s ≡ stepOf self (Write r v) ⌝ }
+    {
+        let b = self.begin_write(r, v);
+        self.finish(b)
     }
 
     pub fn acknowledge(self, iei: bool) -> Stepped
@@ -639,36 +693,54 @@ impl Device {
         }
     }
 
+    // One event, begun.
+    fn begin(self, e: Event) -> Begun
+        ensures { λ b. ⌜ finished b self ≡ stepOf self e ⌝ }
+    {
+        match e {
+            Event::Reset => Begun::Whole(done_with(self.reset())),
+            Event::Read(r) => {
+                let v = self.read(r);
+                Begun::Whole(Stepped {
+                    device: self,
+                    answer: Answer::Data(v),
+                    timeouts: Timeouts::zero(),
+                })
+            }
+            Event::Write(r, v) => self.begin_write(r, v),
+            Event::Level(i, high) => {
+                let l = self.lines;
+                Begun::Signals(l.with_level(i, high))
+            }
+            Event::Input(i, high) => {
+                let l = self.lines;
+                Begun::Signals(l.with_input(i, high))
+            }
+            Event::Clocks(n) => Begun::Whole(self.clocks(n)),
+            Event::Acknowledge(iei) => Begun::Whole(self.acknowledge(iei)),
+            Event::Raise(c) => {
+                let i = self.interrupts;
+                Begun::Whole(done_with(self.with_interrupts(i.raise(interrupts::set_of(c)))))
+            }
+        }
+    }
+
+    // What an event begun comes to: the one place where signals change.
+    fn finish(self, b: Begun) -> Stepped
+        ensures { λ r. ⌜ r ≡ finished b self ⌝ }
+    {
+        match b {
+            Begun::Signals(after) => self.signal(after),
+            Begun::Whole(s) => s,
+        }
+    }
+
     // One event, by the rules. It asks nothing of the device; `handle` refuses.
     pub fn step(self, e: Event) -> Stepped
         ensures { λ r. ⌜ r ≡ stepOf self e ⌝ }
     {
-        match e {
-            Event::Reset => done_with(self.reset()),
-            Event::Read(r) => {
-                let v = self.read(r);
-                Stepped {
-                    device: self,
-                    answer: Answer::Data(v),
-                    timeouts: Timeouts::zero(),
-                }
-            }
-            Event::Write(r, v) => self.write(r, v),
-            Event::Level(i, high) => {
-                let l = self.lines;
-                self.signal(l.with_level(i, high))
-            }
-            Event::Input(i, high) => {
-                let l = self.lines;
-                self.signal(l.with_input(i, high))
-            }
-            Event::Clocks(n) => self.clocks(n),
-            Event::Acknowledge(iei) => self.acknowledge(iei),
-            Event::Raise(c) => {
-                let i = self.interrupts;
-                done_with(self.with_interrupts(i.raise(interrupts::set_of(c))))
-            }
-        }
+        let b = self.begin(e);
+        self.finish(b)
     }
 
     // Whether the record keeps the image rule.

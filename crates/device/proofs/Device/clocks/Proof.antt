@@ -37,29 +37,17 @@ tai-is-active-requires c κs = search needs
 tbi-is-active-requires : tie.Need-tbi-is-active-requires
 tbi-is-active-requires c κs = search needs
 
-timeouts-requires : tie.Need-timeouts-requires
-timeouts-requires c κs = search needs
+clocks-requires : tie.Need-clocks-requires
+clocks-requires c κs = search needs
 
-timeouts-requires-2 : tie.Need-timeouts-requires-2
-timeouts-requires-2 c κs = search needs
+clocks-requires-2 : tie.Need-clocks-requires-2
+clocks-requires-2 c κs = search needs
 
-timeouts-requires-3 : tie.Need-timeouts-requires-3
-timeouts-requires-3 c κs = search needs
+clocks-requires-3 : tie.Need-clocks-requires-3
+clocks-requires-3 c κs = search needs
 
-timeouts-requires-4 : tie.Need-timeouts-requires-4
-timeouts-requires-4 c κs = search needs
-
-advanced-requires : tie.Need-advanced-requires
-advanced-requires c κs = search needs
-
-advanced-requires-2 : tie.Need-advanced-requires-2
-advanced-requires-2 c κs = search needs
-
-advanced-requires-3 : tie.Need-advanced-requires-3
-advanced-requires-3 c κs = search needs
-
-advanced-requires-4 : tie.Need-advanced-requires-4
-advanced-requires-4 c κs = search needs
+clocks-requires-4 : tie.Need-clocks-requires-4
+clocks-requires-4 c κs = search needs
 
 channels-requires : tie.Need-channels-requires
 channels-requires c κs = search needs
@@ -73,18 +61,22 @@ returns c =
     let d = a .self in
     let tai = c .before .before .before .before .before .before .before .before .before .before .before .tai-is-active .ensures in
     let tbi = c .before .before .before .before .before .before .before .before .before .before .tbi-is-active .ensures in
+    let of-a = c .before .before .before .before .before .before .before .before .before .clocks .ensures in
+    let of-b = c .before .before .before .before .before .before .before .before .clocks2 .ensures in
+    let of-c = c .before .before .before .before .before .before .before .clocks3 .ensures in
+    let of-d = c .before .before .before .before .before .before .clocks4 .ensures in
     built d (a .n) _ _ _
     (λ k. record {
-      a = (c .before .before .before .before .before .before .before .before .before .timeouts .ensures ∙ ap (λ (x : Bool). timeouts x (a .n) (d .timers .a)) tai) k;
-      b = (c .before .before .before .before .before .before .before .before .timeouts2 .ensures ∙ ap (λ (x : Bool). timeouts x (a .n) (d .timers .b)) tbi) k;
-      c = c .before .before .before .before .before .before .before .timeouts3 .ensures k;
-      d = c .before .before .before .before .before .before .timeouts4 .ensures k;
+      a = (of-a .1 ∙ ap (λ (x : Bool). timeouts x (a .n) (d .timers .a)) tai) k;
+      b = (of-b .1 ∙ ap (λ (x : Bool). timeouts x (a .n) (d .timers .b)) tbi) k;
+      c = of-c .1 k;
+      d = of-d .1 k;
     })
     (λ k. record {
-      a = (c .before .before .before .before .before .advanced .ensures ∙ ap (λ (x : Bool). clocks x (a .n) (d .timers .a)) tai) k;
-      b = (c .before .before .before .before .advanced2 .ensures ∙ ap (λ (x : Bool). clocks x (a .n) (d .timers .b)) tbi) k;
-      c = c .before .before .before .advanced3 .ensures k;
-      d = c .before .before .advanced4 .ensures k;
+      a = (of-a .0 ∙ ap (λ (x : Bool). clocks x (a .n) (d .timers .a)) tai) k;
+      b = (of-b .0 ∙ ap (λ (x : Bool). clocks x (a .n) (d .timers .b)) tbi) k;
+      c = of-c .0 k;
+      d = of-d .0 k;
     })
     (c .raise .ensures ∙ ap (λ (s : ℕ). raised s (d .interrupts)) (c .before .channels .ensures))
 
@@ -94,14 +86,10 @@ clocks-spec =
     (tie.spec
     tai-is-active-requires
     tbi-is-active-requires
-    timeouts-requires
-    timeouts-requires-2
-    timeouts-requires-3
-    timeouts-requires-4
-    advanced-requires
-    advanced-requires-2
-    advanced-requires-3
-    advanced-requires-4
+    clocks-requires
+    clocks-requires-2
+    clocks-requires-3
+    clocks-requires-4
     channels-requires
     raise-requires
     returns)

@@ -72,6 +72,12 @@ pulse-if-requires c κs = search needs
 pulse-if-requires-2 : tie.Need-pulse-if-requires-2
 pulse-if-requires-2 c κs = search needs
 
+unchanged-requires : tie.Need-unchanged-requires
+unchanged-requires c κs = search needs
+
+unchanged-requires-2 : tie.Need-unchanged-requires-2
+unchanged-requires-2 c κs = search needs
+
 channels-requires : tie.Need-channels-requires
 channels-requires c κs = search needs
 
@@ -81,26 +87,26 @@ raise-requires c κs = search needs
 returns : tie.Need-returns
 unfolding signalTimeouts signalTimers
 returns c =
-    let a = c .before .before .before .before .before .before .before .before .before .before .before .before .before .before .before .before .before .before .before .before .args in
+    let a = c .before .before .before .before .before .before .before .before .before .before .before .before .before .before .before .before .before .before .before .before .before .before .args in
     let d = a .self in
-    let ca = c .before .before .before .before .before .before .before .before .before .before .before .before .before .before .before .before .before .before .before .counts-a .ensures in
-    let cb = c .before .before .before .before .before .before .before .before .before .before .before .before .before .before .before .before .before .before .counts-b .ensures in
-    let r = c .before .before .before .before .before .before .lines-raising in
+    let ca = c .before .before .before .before .before .before .before .before .before .before .before .before .before .before .before .before .before .before .before .before .before .counts-a .ensures in
+    let cb = c .before .before .before .before .before .before .before .before .before .before .before .before .before .before .before .before .before .before .before .before .counts-b .ensures in
+    let r = c .before .before .before .before .before .before .before .before .lines-raising in
     built (a .after) d _ _ _ _
     (λ k. record {
-      a = (c .before .before .before .before .before .before .before .before .before .before .once .ensures ∙ ap (λ (x : Bool). cond x 1 0) (c .before .before .before .before .before .before .before .before .before .before .before .both .ensures ∙ ap₂ _&&_ ca (c .before .before .before .before .before .before .before .before .before .before .before .before .is-due .ensures))) k;
-      b = (c .before .before .before .before .before .before .before .once2 .ensures ∙ ap (λ (x : Bool). cond x 1 0) (c .before .before .before .before .before .before .before .before .both2 .ensures ∙ ap₂ _&&_ cb (c .before .before .before .before .before .before .before .before .before .is-due2 .ensures))) k;
+      a = (c .before .before .before .before .before .before .before .before .before .before .before .before .once .ensures ∙ ap (λ (x : Bool). cond x 1 0) (c .before .before .before .before .before .before .before .before .before .before .before .before .before .both .ensures ∙ ap₂ _&&_ ca (c .before .before .before .before .before .before .before .before .before .before .before .before .before .before .is-due .ensures))) k;
+      b = (c .before .before .before .before .before .before .before .before .before .once2 .ensures ∙ ap (λ (x : Bool). cond x 1 0) (c .before .before .before .before .before .before .before .before .before .before .both2 .ensures ∙ ap₂ _&&_ cb (c .before .before .before .before .before .before .before .before .before .before .before .is-due2 .ensures))) k;
       c = 0;
       d = 0;
     })
     (λ k. record {
-      a = (c .before .before .before .pulse-if .ensures ∙ ap (λ (x : Bool). cond x (pulsed (d .timers .a)) (d .timers .a)) ca) k;
-      b = (c .before .before .pulse-if2 .ensures ∙ ap (λ (x : Bool). cond x (pulsed (d .timers .b)) (d .timers .b)) cb) k;
-      c = d .timers .c;
-      d = d .timers .d;
+      a = (c .before .before .before .before .before .pulse-if .ensures ∙ ap (λ (x : Bool). cond x (pulsed (d .timers .a)) (d .timers .a)) ca) k;
+      b = (c .before .before .before .before .pulse-if2 .ensures ∙ ap (λ (x : Bool). cond x (pulsed (d .timers .b)) (d .timers .b)) cb) k;
+      c = c .before .before .before .unchanged .ensures k;
+      d = c .before .before .unchanged2 .ensures k;
     })
-    (ap₂ bitOr (c .before .before .before .before .before .channels-of .ensures ∙ lines-agree (has (r .result)) (lineRaises (d .timers) (d .lines) (a .after)) (r .ensures)) (c .before .before .before .before .ends-of .ensures))
-    (c .raise .ensures ∙ ap (λ (s : ℕ). raised (bitOr (bitOr (c .before .before .before .before .before .channels-of .result) (c .before .before .before .before .ends-of .result)) s) (d .interrupts)) (c .before .channels .ensures))
+    (ap₂ bitOr (c .before .before .before .before .before .before .before .channels-of .ensures ∙ lines-agree (has (r .result)) (lineRaises (d .timers) (d .lines) (a .after)) (r .ensures)) (c .before .before .before .before .before .before .ends-of .ensures))
+    (c .raise .ensures ∙ ap (λ (s : ℕ). raised (bitOr (bitOr (c .before .before .before .before .before .before .before .channels-of .result) (c .before .before .before .before .before .before .ends-of .result)) s) (d .interrupts)) (c .before .channels .ensures))
 
 pub signal-spec : {M : Type 1} → statement M
 signal-spec =
@@ -119,6 +125,8 @@ signal-spec =
     ends-of-requires
     pulse-if-requires
     pulse-if-requires-2
+    unchanged-requires
+    unchanged-requires-2
     channels-requires
     raise-requires
     returns)

@@ -19,6 +19,8 @@ use Rattle.tape.specs.declared.Selected.{Selected}
 use Rattle.tape.specs.declared.Selected.the-variants.{Known, SerialPort}
 use Rattle.tape.specs.declared.Decoded.{Decoded}
 use Rattle.tape.specs.declared.Decoded.the-variants.{Valid, Invalid}
+use Rattle.tape.specs.declared.Verdict.{Verdict}
+use Rattle.tape.specs.declared.Verdict.the-variants.{Sound, Wrong}
 use Rattle.tape.specs.declared.Checked.{Checked}
 use Rattle.tape.specs.declared.Checked.the-variants.{Fine, Bad}
 
@@ -101,6 +103,11 @@ decoded tape at =
     cond (eqb (byte tape at) mark0 && eqb (byte tape (at + 1)) mark1)
     (eventOf (byte tape (at + 2)) (byte tape (at + 3)) (number (byte tape (at + 4)) (byte tape (at + 5)) (byte tape (at + 6)) (byte tape (at + 7))))
     (Invalid RecordMark)
+
+-- ---- for private functions: what the check finds of one record
+abbrev pub verdictOf : Decoded → Verdict
+verdictOf (Valid e) = Sound
+verdictOf (Invalid r) = Wrong r
 
 -- ---- a tape
 -- how many records a tape of accepted length has

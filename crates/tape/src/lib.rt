@@ -1,6 +1,6 @@
 // The tape: its records decoded into events or refusals, its answers as bytes, the whole check in
 // the paper's order, and the run. The rules stand in specs/. Everything is checked before anything
-// is run, by the decoder that the run uses.
+// is run; the check and the run keep to one meaning of a record.
 use device::Device;
 use device::Event;
 use device::Refusal;
@@ -12,12 +12,14 @@ use interrupts::Channel;
 use interrupts::Half;
 use interrupts::Line;
 ghost use mathlib.Core.Path.{_≡_};
-ghost use mathlib.Core.Bool.{_&&_};
+ghost use mathlib.Core.Bool.{cond, _&&_};
 ghost use mathlib.Core.List.{_++_};
 ghost use Prim.Native.Nat.{_+_, _*_, _≤_, _<_};
 ghost use lib.ListN.{length, take, drop};
+ghost use Rattle.device.specs.declared.Register.{Register as RegisterT};
+ghost use Rattle.device.specs.declared.Event.{Event as EventT};
 ghost use Rattle.device.specs.Events.{stepOf, bit};
-ghost use Rattle.tape.specs.Records.{recordBytes, registerOf, reading, writing, inputOf, inRange, eventOf, number, decoded, records, recordAt, firstBad, events, eventsOf};
+ghost use Rattle.tape.specs.Records.{registerOf, reading, inputOf, eventOf, number, decoded, verdictOf, recordAt, firstBad, events};
 ghost use Rattle.tape.specs.Answers.{answerBytes, answerOf};
 ghost use Rattle.tape.specs.Runs.{runOf, answersOf, code, tapeResult, resultOf, imageAfter, answersAfter};
 
@@ -43,6 +45,12 @@ pub enum Selected {
 pub enum Decoded {
     Valid(Event),
     Invalid(Refusal),
+}
+
+// What the check finds of one record.
+pub enum Verdict {
+    Sound,
+    Wrong(Refusal),
 }
 
 // What the check of a tape's records finds: nothing, or the first refusal and its record's index.
@@ -80,23 +88,14 @@ pub fn register_of(rs: u8) -> Selected
     }
 }
 
-fn read_of(rs: u8) -> Decoded
-    ensures { λ r. ⌜ r ≡ reading (registerOf rs) ⌝ }
+// The register of a select that the check has let pass.
+fn known(rs: u8) -> Register
+    ensures { λ r. ⌜ ((q : RegisterT) → registerOf rs ≡ Selected.Known q → r ≡ q) ⌝ }
 {
     let s = register_of(rs);
     match s {
-        Selected::Known(r) => Decoded::Valid(Event::Read(r)),
-        Selected::SerialPort => Decoded::Invalid(Refusal::Serial),
-    }
-}
-
-fn write_of(rs: u8, v: u8) -> Decoded
-    ensures { λ r. ⌜ r ≡ writing (registerOf rs) v ⌝ }
-{
-    let s = register_of(rs);
-    match s {
-        Selected::Known(r) => Decoded::Valid(Event::Write(r, v)),
-        Selected::SerialPort => Decoded::Invalid(Refusal::Serial),
+        Selected::Known(r) => r,
+        Selected::SerialPort => Register::Gpdr,
     }
 }
 
@@ -110,6 +109,35 @@ fn input_of(a: u8) -> TimerInput
     TimerInput::Tbi
 }
 
+// A number from its four bytes, high byte first.
+fn number_of(p: u8, q: u8, r: u8, s: u8) -> u32
+    ensures { λ v. ⌜ v ≡ number p q r s ⌝ }
+{
+    p as u32 * 16777216 + q as u32 * 65536 + r as u32 * 256 + s as u32
+}
+
+// The event of the record that starts at byte `at`, if the check lets it pass. The event is written
+// out in each arm, not handed on from a call: so the compiler keeps it in registers.
+fn event_at(tape: &[u8], at: usize) -> Event
+    requires { ⌜ at + 8 ≤ length (now tape) ⌝ }
+    ensures { λ r. ⌜ ((e : EventT) → decoded (now (tape .entry)) at ≡ Decoded.Valid e → r ≡ e) ⌝ }
+{
+    let a = tape[at + 3];
+    let n = number_of(tape[at + 4], tape[at + 5], tape[at + 6], tape[at + 7]);
+    match tape[at + 2] {
+        0 => Event::Reset,
+        1 => Event::Read(known(a)),
+        2 => Event::Write(known(a), (n % 256) as u8),
+        3 => Event::Level(Line(a), n == 1),
+        4 => Event::Input(input_of(a), n == 1),
+        5 => Event::Clocks(n),
+        6 => Event::Acknowledge(a == 1),
+        _ => Event::Raise(Channel(a)),
+    }
+}
+
+// ---- the check of one record
+
 fn both(a: bool, b: bool) -> bool
     ensures { λ r. ⌜ r ≡ (a && b) ⌝ }
 {
@@ -119,65 +147,57 @@ fn both(a: bool, b: bool) -> bool
     false
 }
 
-// What the record means if its operands are in range, else refusal 7.
-fn in_range(t: bool, d: Decoded) -> Decoded
-    ensures { λ r. ⌜ r ≡ inRange t d ⌝ }
+// Refusal 7 unless the operands are in range, then what else is found.
+fn in_range(t: bool, v: Verdict) -> Verdict
+    ensures { λ r. ⌜ r ≡ cond t v (Verdict.Wrong Refusal.Operand) ⌝ }
 {
     if t {
-        return d;
+        return v;
     }
-    Decoded::Invalid(Refusal::Operand)
+    Verdict::Wrong(Refusal::Operand)
 }
 
-// The event of a record's kind and operands, or refusal 6, 7 or 8.
-pub fn event_of(kind: u8, a: u8, n: u32) -> Decoded
-    ensures { λ r. ⌜ r ≡ eventOf kind a n ⌝ }
+// Refusal 8 for the serial port's registers.
+fn selects(rs: u8) -> Verdict
+    ensures { λ r. ⌜ r ≡ verdictOf (reading (registerOf rs)) ⌝ }
+{
+    let s = register_of(rs);
+    match s {
+        Selected::Known(_) => Verdict::Sound,
+        Selected::SerialPort => Verdict::Wrong(Refusal::Serial),
+    }
+}
+
+// Refusal 6, 7 or 8 of a record's kind and operands.
+fn verdict_of(kind: u8, a: u8, n: u32) -> Verdict
+    ensures { λ r. ⌜ r ≡ verdictOf (eventOf kind a n) ⌝ }
 {
     match kind {
-        0 => in_range(both(a == 0, n == 0), Decoded::Valid(Event::Reset)),
-        1 => in_range(both(a <= 23, n == 0), read_of(a)),
-        2 => in_range(both(a <= 23, n <= 255), write_of(a, (n % 256) as u8)),
-        3 => in_range(
-            both(a <= 7, n <= 1),
-            Decoded::Valid(Event::Level(Line(a), n == 1)),
-        ),
-        4 => in_range(
-            both(a <= 1, n <= 1),
-            Decoded::Valid(Event::Input(input_of(a), n == 1)),
-        ),
-        5 => in_range(a == 0, Decoded::Valid(Event::Clocks(n))),
-        6 => in_range(
-            both(a <= 1, n == 0),
-            Decoded::Valid(Event::Acknowledge(a == 1)),
-        ),
-        7 => in_range(
-            both(both(9 <= a, a <= 12), n == 0),
-            Decoded::Valid(Event::Raise(Channel(a))),
-        ),
-        _ => Decoded::Invalid(Refusal::Kind),
+        0 => in_range(both(a == 0, n == 0), Verdict::Sound),
+        1 => in_range(both(a <= 23, n == 0), selects(a)),
+        2 => in_range(both(a <= 23, n <= 255), selects(a)),
+        3 => in_range(both(a <= 7, n <= 1), Verdict::Sound),
+        4 => in_range(both(a <= 1, n <= 1), Verdict::Sound),
+        5 => in_range(a == 0, Verdict::Sound),
+        6 => in_range(both(a <= 1, n == 0), Verdict::Sound),
+        7 => in_range(both(both(9 <= a, a <= 12), n == 0), Verdict::Sound),
+        _ => Verdict::Wrong(Refusal::Kind),
     }
 }
 
-// A number from its four bytes, high byte first.
-fn number_of(p: u8, q: u8, r: u8, s: u8) -> u32
-    ensures { λ v. ⌜ v ≡ number p q r s ⌝ }
-{
-    p as u32 * 16777216 + q as u32 * 65536 + r as u32 * 256 + s as u32
-}
-
-// What the record that starts at byte `at` means.
-fn decode(tape: &[u8], at: usize) -> Decoded
+// What the check finds of the record that starts at byte `at`: refusal 5 first.
+fn verdict_at(tape: &[u8], at: usize) -> Verdict
     requires { ⌜ at + 8 ≤ length (now tape) ⌝ }
-    ensures { λ r. ⌜ r ≡ decoded (now (tape .entry)) at ⌝ }
+    ensures { λ r. ⌜ r ≡ verdictOf (decoded (now (tape .entry)) at) ⌝ }
 {
     if tape[at] != MARK_0 {
-        return Decoded::Invalid(Refusal::RecordMark);
+        return Verdict::Wrong(Refusal::RecordMark);
     }
     if tape[at + 1] != RECORD_MARK_1 {
-        return Decoded::Invalid(Refusal::RecordMark);
+        return Verdict::Wrong(Refusal::RecordMark);
     }
     let n = number_of(tape[at + 4], tape[at + 5], tape[at + 6], tape[at + 7]);
-    event_of(tape[at + 2], tape[at + 3], n)
+    verdict_of(tape[at + 2], tape[at + 3], n)
 }
 
 // What the record of index i means: refusal 4 where the tape ends before it.
@@ -187,7 +207,12 @@ pub fn record_at(tape: &[u8], i: usize) -> Decoded
     if tape.len() / RECORD_BYTES <= i {
         return Decoded::Invalid(Refusal::TapeLength);
     }
-    decode(tape, i * RECORD_BYTES)
+    let at = i * RECORD_BYTES;
+    let v = verdict_at(tape, at);
+    match v {
+        Verdict::Wrong(r) => Decoded::Invalid(r),
+        Verdict::Sound => Decoded::Valid(event_at(tape, at)),
+    }
 }
 
 // ---- the check of all records
@@ -198,8 +223,8 @@ fn check_records(tape: &[u8], n: usize) -> Checked
 {
     let mut i = 0;
     while i < n {
-        let d = decode(tape, i * RECORD_BYTES);
-        if let Decoded::Invalid(r) = d {
+        let v = verdict_at(tape, i * RECORD_BYTES);
+        if let Verdict::Wrong(r) = v {
             return Checked::Bad(r, i);
         }
         i += 1;
@@ -306,10 +331,7 @@ fn run_records(d: Device, tape: &[u8], answers: &mut [u8], n: usize) -> Device
     let mut at = d;
     let mut i = 0;
     while i < n {
-        let x = decode(tape, i * RECORD_BYTES);
-        let Decoded::Valid(e) = x else {
-            return d;
-        };
+        let e = event_at(tape, i * RECORD_BYTES);
         let s = at.step(e);
         put_answer(s, answers, i * ANSWER_BYTES);
         at = s.device;

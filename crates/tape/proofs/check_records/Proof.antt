@@ -6,6 +6,7 @@ use native.Mathlib.Omega.{arith}
 use borrow.Author.Needs.{needs}
 use Rattle.tape.specs.Records.{firstBad}
 use Rattle.tape.proofs.Tapes.{check-bad, check-valid, check-none}
+use Rattle.tape.proofs.Verdicts.{Holds, sound, wrong}
 use Rattle.tape.proofs.check_records.Statement.{statement}
 use Rattle.tape.proofs.check_records.Tie as tie
 
@@ -18,19 +19,19 @@ abbrev μ-loop : tie.MeasureT-loop
 loop-holds : tie.Need-loop-holds Inv-loop μ-loop
 loop-holds c = (omega arith, ap (firstBad (c .before .args .tape .now) 0) (omega arith))
 
-mul-decode : tie.Need-mul-decode Inv-loop μ-loop
-mul-decode c = omega arith
+mul-verdict-at : tie.Need-mul-verdict-at Inv-loop μ-loop
+mul-verdict-at c = omega arith
 
-decode-requires : tie.Need-decode-requires Inv-loop μ-loop
-decode-requires c κs = omega arith
+verdict-at-requires : tie.Need-verdict-at-requires Inv-loop μ-loop
+verdict-at-requires c κs = omega arith
 
-enum-known-d : tie.Need-enum-known-d Inv-loop μ-loop
-enum-known-d c = search needs
+enum-known-v : tie.Need-enum-known-v Inv-loop μ-loop
+enum-known-v c = search needs
 
 returns : tie.Need-returns Inv-loop μ-loop
 returns c =
     let a = c .before .before .before .before .before .before .before .args in
-    sym (check-bad (a .tape .now) (c .before .before .before .before .before .loop .i) (a .n) (c .before .before .before .before .loop-test .taken) _ (sym (c .before .before .before .decode .ensures) ∙ c .before .d .given .1)) ∙ c .before .before .before .before .before .loop .inv .1
+    sym (check-bad (a .tape .now) (c .before .before .before .before .before .loop .i) (a .n) (c .before .before .before .before .loop-test .taken) _ (wrong _ _ (sym (c .before .before .before .verdict-at .ensures) ∙ c .before .v .given .1))) ∙ c .before .before .before .before .before .loop .inv .1
 
 enum-told : tie.Need-enum-told Inv-loop μ-loop
 enum-told c = search needs
@@ -44,7 +45,7 @@ loop-less c = omega arith
 loop-again : tie.Need-loop-again Inv-loop μ-loop
 loop-again c =
     let a = c .before .before .before .before .before .before .args in
-    (omega arith, sym (check-valid (a .tape .now) (c .before .before .before .before .loop .i) (a .n) (c .before .before .before .loop-test .taken) _ (sym (c .before .before .decode .ensures) ∙ c .enum-told .given .1)) ∙ c .before .before .before .before .loop .inv .1)
+    (omega arith, let v = sound _ (sym (c .before .before .verdict-at .ensures) ∙ c .enum-told .given .1) in sym (check-valid (a .tape .now) (c .before .before .before .before .loop .i) (a .n) (c .before .before .before .loop-test .taken) (v .event) (v .is)) ∙ c .before .before .before .before .loop .inv .1)
 
 returns-2 : tie.Need-returns-2 Inv-loop μ-loop
 returns-2 c =
@@ -59,9 +60,9 @@ check-records-spec =
     Inv-loop
     μ-loop
     loop-holds
-    mul-decode
-    decode-requires
-    enum-known-d
+    mul-verdict-at
+    verdict-at-requires
+    enum-known-v
     returns
     enum-told
     add-i

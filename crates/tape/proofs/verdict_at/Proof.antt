@@ -1,11 +1,10 @@
--- `tape::decode` meets its contract: the mark, then the event. Assumes nothing.
+-- `tape::verdict_at` meets its contract: the mark, then the kind and operands. Assumes nothing.
 use borrow.Author.Needs.{needs}
 use mathlib.Core.Path.{_≡_, refl, sym, ap, ap₂, _∙_}
-use Prim.Native.Nat.{ℕ}
 use borrow.Author.Tests.{eq-eqb, ne-eqb}
-use Rattle.tape.specs.Records.{eventOf, decoded}
-use Rattle.tape.proofs.decode.Statement.{statement}
-use Rattle.tape.proofs.decode.Tie as tie
+use Rattle.tape.specs.Records.{eventOf, decoded, verdictOf}
+use Rattle.tape.proofs.verdict_at.Statement.{statement}
+use Rattle.tape.proofs.verdict_at.Tie as tie
 
 shared-slice-read-if1 : tie.Need-shared-slice-read-if1
 shared-slice-read-if1 c = search needs
@@ -51,27 +50,27 @@ shared-slice-read-number-of-4 c = search needs
 number-of-requires : tie.Need-number-of-requires
 number-of-requires c κs = search needs
 
-add-event-of : tie.Need-add-event-of
-add-event-of c = search needs
+add-verdict-of : tie.Need-add-verdict-of
+add-verdict-of c = search needs
 
-shared-slice-read-event-of : tie.Need-shared-slice-read-event-of
-shared-slice-read-event-of c = search needs
+shared-slice-read-verdict-of : tie.Need-shared-slice-read-verdict-of
+shared-slice-read-verdict-of c = search needs
 
-add-event-of-2 : tie.Need-add-event-of-2
-add-event-of-2 c = search needs
+add-verdict-of-2 : tie.Need-add-verdict-of-2
+add-verdict-of-2 c = search needs
 
-shared-slice-read-event-of-2 : tie.Need-shared-slice-read-event-of-2
-shared-slice-read-event-of-2 c = search needs
+shared-slice-read-verdict-of-2 : tie.Need-shared-slice-read-verdict-of-2
+shared-slice-read-verdict-of-2 c = search needs
 
-event-of-requires : tie.Need-event-of-requires
-event-of-requires c κs = search needs
+verdict-of-requires : tie.Need-verdict-of-requires
+verdict-of-requires c κs = search needs
 
 returns-3 : tie.Need-returns-3
 unfolding decoded
-returns-3 c = rw (eq-eqb _ _ (c .before .before .before .before .before .before .before .before .before .before .if1 .left), eq-eqb _ _ (c .before .before .before .before .before .before .before .before .if2 .left)) (c .event-of .ensures ∙ ap (eventOf _ _) (c .before .before .before .number-of .ensures))
+returns-3 c = rw (eq-eqb _ _ (c .before .before .before .before .before .before .before .before .before .before .if1 .left), eq-eqb _ _ (c .before .before .before .before .before .before .before .before .if2 .left)) (c .verdict-of .ensures ∙ ap verdictOf (ap (eventOf _ _) (c .before .before .before .number-of .ensures)))
 
-pub decode-spec : {M : Type 1} → statement M
-decode-spec =
+pub verdict-at-spec : {M : Type 1} → statement M
+verdict-at-spec =
     tie.close
     (tie.spec
     shared-slice-read-if1
@@ -88,9 +87,9 @@ decode-spec =
     add-number-of-4
     shared-slice-read-number-of-4
     number-of-requires
-    add-event-of
-    shared-slice-read-event-of
-    add-event-of-2
-    shared-slice-read-event-of-2
-    event-of-requires
+    add-verdict-of
+    shared-slice-read-verdict-of
+    add-verdict-of-2
+    shared-slice-read-verdict-of-2
+    verdict-of-requires
     returns-3)

@@ -48,7 +48,7 @@ pub enum Decoded {
 }
 
 // What the check finds of one record.
-pub enum Verdict {
+enum Verdict {
     Sound,
     Wrong(Refusal),
 }

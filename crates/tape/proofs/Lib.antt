@@ -3,5 +3,6 @@ pub mod Verdicts
 pub mod Meanings
 pub mod Tapes
 pub mod Checks
+pub mod Stores
 pub mod Going
 pub mod Results

@@ -13,19 +13,24 @@ use interrupts::Half;
 use interrupts::Line;
 ghost use mathlib.Core.Path.{_≡_};
 ghost use mathlib.Core.Bool.{cond, _&&_};
-ghost use mathlib.Core.List.{_++_};
+ghost use mathlib.Core.List.{[], _++_};
 ghost use Prim.Native.Nat.{_+_, _*_, _≤_, _<_};
 ghost use lib.ListN.{length, take, drop};
 ghost use Rattle.device.specs.declared.Register.{Register as RegisterT};
 ghost use Rattle.device.specs.declared.Event.{Event as EventT};
 ghost use Rattle.device.specs.Events.{stepOf, bit};
 ghost use Rattle.tape.specs.Records.{registerOf, reading, inputOf, eventOf, number, decoded, verdictOf, recordAt, firstBad, events};
-ghost use Rattle.tape.specs.Answers.{answerBytes, answerOf};
+ghost use Rattle.tape.specs.Answers.{four, answerOf};
 ghost use Rattle.tape.specs.Runs.{runOf, answersOf, code, tapeResult, resultOf, imageAfter, answersAfter};
 
 pub const RECORD_BYTES: usize = 8;
 
 pub const ANSWER_BYTES: usize = 22;
+
+// What stands before an answer's counts, and each count.
+const HEAD_BYTES: usize = 6;
+
+const COUNT_BYTES: usize = 4;
 
 pub const TAPE_MOST: usize = 4096;
 
@@ -243,13 +248,12 @@ fn byte_if(b: bool) -> u8
     0
 }
 
-// The 22 bytes of an answer.
-fn answer_bytes(s: Stepped) -> [u8; ANSWER_BYTES]
-    ensures { λ r. ⌜ r ≡ answerOf s ⌝ }
+// The bytes of an answer that stand before its counts.
+fn head(s: Stepped) -> [u8; HEAD_BYTES]
+    ensures { λ r. ⌜ r ≡ take 6 (answerOf s) ⌝ }
 {
     let d = s.device;
     let a = s.answer;
-    let n = s.timeouts;
     [
         MARK_0,
         ANSWER_MARK_1,
@@ -257,33 +261,51 @@ fn answer_bytes(s: Stepped) -> [u8; ANSWER_BYTES]
         device::value_of(a),
         byte_if(d.irq()),
         d.outputs(),
-        (n.a / 16777216 % 256) as u8,
-        (n.a / 65536 % 256) as u8,
-        (n.a / 256 % 256) as u8,
-        (n.a % 256) as u8,
-        (n.b / 16777216 % 256) as u8,
-        (n.b / 65536 % 256) as u8,
-        (n.b / 256 % 256) as u8,
-        (n.b % 256) as u8,
-        (n.c / 16777216 % 256) as u8,
-        (n.c / 65536 % 256) as u8,
-        (n.c / 256 % 256) as u8,
-        (n.c % 256) as u8,
-        (n.d / 16777216 % 256) as u8,
-        (n.d / 65536 % 256) as u8,
-        (n.d / 256 % 256) as u8,
-        (n.d % 256) as u8,
     ]
 }
 
-// Writes an answer at byte `at` and leaves every other byte.
+// A count's bytes, high byte first.
+fn count_bytes(n: u32) -> [u8; COUNT_BYTES]
+    ensures { λ r. ⌜ r ≡ four n [] ⌝ }
+{
+    [
+        (n / 16777216 % 256) as u8,
+        (n / 65536 % 256) as u8,
+        (n / 256 % 256) as u8,
+        (n % 256) as u8,
+    ]
+}
+
+// Writes these bytes from byte `at` on and leaves every other byte.
+fn put(b: &[u8], answers: &mut [u8], at: usize)
+    requires { ⌜ at + length (now b) ≤ length (now answers) ⌝ }
+    ensures { λ _. ⌜ now (answers .exit) ≡ take at (now (answers .entry)) ++ now (b .entry) ++ drop (at + length (now (b .entry))) (now (answers .entry)) ⌝ }
+{
+    let end = at + b.len();
+    bytes::copy(b, &mut answers[at..end]);
+}
+
+// Writes an answer at byte `at` and leaves every other byte. Each count is put by itself: the compiler
+// then stores it in one move.
 fn put_answer(s: Stepped, answers: &mut [u8], at: usize)
     requires { ⌜ at + 22 ≤ length (now answers) ⌝ }
     ensures { λ _. ⌜ now (answers .exit) ≡ take at (now (answers .entry)) ++ answerOf s ++ drop (at + 22) (now (answers .entry)) ⌝ }
 {
-    let b = answer_bytes(s);
-    let end = at + ANSWER_BYTES;
-    bytes::copy(&b, &mut answers[at..end]);
+    let n = s.timeouts;
+    let h = head(s);
+    let a = count_bytes(n.a);
+    let b = count_bytes(n.b);
+    let c = count_bytes(n.c);
+    let d = count_bytes(n.d);
+    let of_a = at + HEAD_BYTES;
+    let of_b = of_a + COUNT_BYTES;
+    let of_c = of_b + COUNT_BYTES;
+    let of_d = of_c + COUNT_BYTES;
+    put(&h, answers, at);
+    put(&a, answers, of_a);
+    put(&b, answers, of_b);
+    put(&c, answers, of_c);
+    put(&d, answers, of_d);
 }
 
 // ---- the check of a whole tape

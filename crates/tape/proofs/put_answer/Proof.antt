@@ -1,73 +1,147 @@
--- `tape::put_answer` meets its contract: the copy covers the answer's 22 bytes. Assumes nothing.
-use Prim.Native.Nat.{ℕ, _+_, _-_, _≤_}
-use mathlib.Core.List.{List, [], _++_, append-nil, append-assoc}
-use mathlib.Core.Path.{_≡_, refl, sym, ap, ap₂, _∙_}
+-- `tape::put_answer` meets its contract: five stores, each where the one before ends, are the answer's 22 bytes. Assumes nothing.
+use Prim.Native.Nat.{ℕ, _+_, _≤_}
+use mathlib.Core.List.{List, [], _++_}
+use mathlib.Core.Path.{_≡_, ap, _∙_}
 use native.Mathlib.Omega.{arith}
-use borrow.Author.Needs.{needs}
 use lib.ListN.{length, take, drop}
-use lib.Seq.{take-length, drop-length}
-use borrow.Rule.Slice.PartMut.{midOf, putMid, mid-len, post-is}
 use Rattle.device.specs.declared.Stepped.{Stepped}
-use Rattle.tape.specs.Answers.{answerOf}
+use Rattle.tape.specs.Answers.{four, answerOf}
+use Rattle.tape.proofs.Stores.{placed, placed-twice}
+use borrow.Author.Needs.{needs}
 use Rattle.tape.proofs.put_answer.Statement.{statement}
 use Rattle.tape.proofs.put_answer.Tie as tie
 
--- the answer, copied over the part of its length
-laid : (s : Stepped) (at : ℕ) (src ans out : List ℕ) → at + 22 ≤ length ans → src ≡ answerOf s
-    → out ≡ take (length src) src ++ drop (length src) (midOf at (at + 22 - at) ans)
-    → putMid at (at + 22 - at) ans out ≡ take at ans ++ answerOf s ++ drop (at + 22) ans
-unfolding answerOf
-laid s at src ans out h e f =
-    ap₂ (λ (x : List ℕ) (y : List ℕ). take at ans ++ (x ++ y)) whole (post-is at (at + 22) ans (omega arith))
-    ∙ sym (append-assoc (take at ans) (answerOf s) (drop (at + 22) ans))
-  where
-    long : length src ≡ length (midOf at (at + 22 - at) ans)
-    long = ap length e ∙ sym (mid-len at (at + 22) ans h ∙ omega arith)
+-- the buffer after each store, from the one before it
+module _ (s : Stepped) (at : ℕ) (l : List ℕ) (room : at + 22 ≤ length l) where
+  abbrev h : List ℕ
+  h = take 6 (answerOf s)
 
-    whole : out ≡ answerOf s
-    whole =
-        f
-        ∙ ap₂ (λ (x : List ℕ) (y : List ℕ). x ++ y) (take-length src) (ap (λ (n : ℕ). drop n (midOf at (at + 22 - at) ans)) long ∙ drop-length (midOf at (at + 22 - at) ans))
-        ∙ append-nil src
-        ∙ e
+  abbrev a : List ℕ
+  a = four (s .timeouts .a) []
 
-answer-bytes-requires : tie.Need-answer-bytes-requires
-answer-bytes-requires c κs = search needs
+  abbrev b : List ℕ
+  b = four (s .timeouts .b) []
 
-add-end : tie.Need-add-end
-add-end c = search needs
+  abbrev c : List ℕ
+  c = four (s .timeouts .c) []
 
-slice-aggregate-copy : tie.Need-slice-aggregate-copy
-slice-aggregate-copy c = search needs
+  abbrev d : List ℕ
+  d = four (s .timeouts .d) []
 
-sub-copy : tie.Need-sub-copy
-sub-copy c = search needs
+  -- one store more, at the place p where those before it end
+  more : (p : ℕ) (x y : List ℕ) → p ≡ at + length x → at + length x ≤ length l → placed p y (placed at x l) ≡ placed at (x ++ y) l
+  more p x y e f = ap (λ (k : ℕ). placed k y (placed at x l)) e ∙ placed-twice at x y l f
 
-part-copy-start : tie.Need-part-copy-start
-part-copy-start c = search needs
+  answered : (l₁ l₂ l₃ l₄ l₅ : List ℕ) → l₁ ≡ placed at h l → l₂ ≡ placed (at + 6) a l₁ → l₃ ≡ placed (at + 6 + 4) b l₂ → l₄ ≡ placed (at + 6 + 4 + 4) c l₃ → l₅ ≡ placed (at + 6 + 4 + 4 + 4) d l₄
+      → l₅ ≡ take at l ++ answerOf s ++ drop (at + 22) l
+  unfolding answerOf
+  answered l₁ l₂ l₃ l₄ l₅ e₁ e₂ e₃ e₄ e₅ = e₅ ∙ ap (placed (at + 6 + 4 + 4 + 4) d) to-c ∙ more (at + 6 + 4 + 4 + 4) (h ++ a ++ b ++ c) d (omega arith) (omega arith)
+    where
+      to-a : l₂ ≡ placed at (h ++ a) l
+      to-a = e₂ ∙ ap (placed (at + 6) a) e₁ ∙ more (at + 6) h a (omega arith) (omega arith)
 
-part-copy-end : tie.Need-part-copy-end
-part-copy-end c = search needs
+      to-b : l₃ ≡ placed at (h ++ a ++ b) l
+      to-b = e₃ ∙ ap (placed (at + 6 + 4) b) to-a ∙ more (at + 6 + 4) (h ++ a) b (omega arith) (omega arith)
 
-copy-requires : tie.Need-copy-requires
-copy-requires c κs = search needs
+      to-c : l₄ ≡ placed at (h ++ a ++ b ++ c) l
+      to-c = e₄ ∙ ap (placed (at + 6 + 4 + 4) c) to-b ∙ more (at + 6 + 4 + 4) (h ++ a ++ b) c (omega arith) (omega arith)
+
+head-requires : tie.Need-head-requires
+head-requires c κs = search needs
+
+count-bytes-requires : tie.Need-count-bytes-requires
+count-bytes-requires c κs = search needs
+
+count-bytes-requires-2 : tie.Need-count-bytes-requires-2
+count-bytes-requires-2 c κs = search needs
+
+count-bytes-requires-3 : tie.Need-count-bytes-requires-3
+count-bytes-requires-3 c κs = search needs
+
+count-bytes-requires-4 : tie.Need-count-bytes-requires-4
+count-bytes-requires-4 c κs = search needs
+
+add-of-a : tie.Need-add-of-a
+add-of-a c = search needs
+
+add-of-b : tie.Need-add-of-b
+add-of-b c = search needs
+
+add-of-c : tie.Need-add-of-c
+add-of-c c = search needs
+
+add-of-d : tie.Need-add-of-d
+add-of-d c = search needs
+
+slice-aggregate-put : tie.Need-slice-aggregate-put
+slice-aggregate-put c = search needs
+
+put-requires : tie.Need-put-requires
+put-requires c κs = search needs
+
+slice-aggregate-put-2 : tie.Need-slice-aggregate-put-2
+slice-aggregate-put-2 c = search needs
+
+put-requires-2 : tie.Need-put-requires-2
+put-requires-2 c κs = search needs
+
+slice-aggregate-put-3 : tie.Need-slice-aggregate-put-3
+slice-aggregate-put-3 c = search needs
+
+put-requires-3 : tie.Need-put-requires-3
+put-requires-3 c κs = search needs
+
+slice-aggregate-put-4 : tie.Need-slice-aggregate-put-4
+slice-aggregate-put-4 c = search needs
+
+put-requires-4 : tie.Need-put-requires-4
+put-requires-4 c κs = search needs
+
+slice-aggregate-put-5 : tie.Need-slice-aggregate-put-5
+slice-aggregate-put-5 c = search needs
+
+put-requires-5 : tie.Need-put-requires-5
+put-requires-5 c κs = search needs
 
 same-length : tie.Need-same-length
 same-length c = search needs
 
 returns : tie.Need-returns
-returns c = laid (c .before .before .before .before .before .before .before .args .s) (c .before .before .before .before .before .before .before .args .at) (c .before .before .before .before .before .answer-bytes .result) (c .before .before .before .before .before .before .before .args .answers .now) _ (c .before .before .before .before .before .before .before .pre) (c .before .before .before .before .before .answer-bytes .ensures) (c .before .before .copy .ensures .1)
+returns c =
+    let x = c .before .before .before .before .before .before .before .before .before .before .before .before .before .before .before .before .before .before .before .before .before .before .before .before .before .before .before .before .before .before .before .before .args in
+    let l₁ = c .before .before .before .before .before .before .before .before .before .before .before .before .before .before .before .before .before .before .before .before .before .before .put in
+    let l₂ = c .before .before .before .before .before .before .before .before .before .before .before .before .before .before .before .before .before .put2 in
+    let l₃ = c .before .before .before .before .before .before .before .before .before .before .before .before .put3 in
+    let l₄ = c .before .before .before .before .before .before .before .put4 in
+    answered (x .s) (x .at) (x .answers .now) (c .before .before .before .before .before .before .before .before .before .before .before .before .before .before .before .before .before .before .before .before .before .before .before .before .before .before .before .before .before .before .before .before .pre) (l₁ .last .1 .0) (l₂ .last .1 .0) (l₃ .last .1 .0) (l₄ .last .1 .0) _
+    (l₁ .ensures ∙ ap (λ (y : List ℕ). placed (x .at) y (x .answers .now)) (c .before .before .before .before .before .before .before .before .before .before .before .before .before .before .before .before .before .before .before .before .before .before .before .before .before .before .before .before .before .head .ensures))
+    (l₂ .ensures ∙ ap (λ (y : List ℕ). placed (x .at + 6) y (l₁ .last .1 .0)) (c .before .before .before .before .before .before .before .before .before .before .before .before .before .before .before .before .before .before .before .before .before .before .before .before .before .before .before .before .count-bytes .ensures))
+    (l₃ .ensures ∙ ap (λ (y : List ℕ). placed (x .at + 6 + 4) y (l₂ .last .1 .0)) (c .before .before .before .before .before .before .before .before .before .before .before .before .before .before .before .before .before .before .before .before .before .before .before .before .before .before .before .count-bytes2 .ensures))
+    (l₄ .ensures ∙ ap (λ (y : List ℕ). placed (x .at + 6 + 4 + 4) y (l₃ .last .1 .0)) (c .before .before .before .before .before .before .before .before .before .before .before .before .before .before .before .before .before .before .before .before .before .before .before .before .before .before .count-bytes3 .ensures))
+    (c .before .before .put5 .ensures ∙ ap (λ (y : List ℕ). placed (x .at + 6 + 4 + 4 + 4) y (l₄ .last .1 .0)) (c .before .before .before .before .before .before .before .before .before .before .before .before .before .before .before .before .before .before .before .before .before .before .before .before .before .count-bytes4 .ensures))
 
 pub put-answer-spec : {M : Type 1} → statement M
 put-answer-spec =
     tie.close
     (tie.spec
-    answer-bytes-requires
-    add-end
-    slice-aggregate-copy
-    sub-copy
-    part-copy-start
-    part-copy-end
-    copy-requires
+    head-requires
+    count-bytes-requires
+    count-bytes-requires-2
+    count-bytes-requires-3
+    count-bytes-requires-4
+    add-of-a
+    add-of-b
+    add-of-c
+    add-of-d
+    slice-aggregate-put
+    put-requires
+    slice-aggregate-put-2
+    put-requires-2
+    slice-aggregate-put-3
+    put-requires-3
+    slice-aggregate-put-4
+    put-requires-4
+    slice-aggregate-put-5
+    put-requires-5
     same-length
     returns)

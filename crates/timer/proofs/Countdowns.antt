@@ -1,10 +1,11 @@
 -- The closed form of a countdown, from its single units: while it has not run out, and once it has.
 -- Assumes nothing.
-use Prim.Native.Nat.{ℕ, zero, suc, _+_, _-_, _/_, _%_, _≤_, _<_}
+use Prim.Native.Nat.{ℕ, zero, suc, _+_, _-_, _*_, _/_, _%_, _≤_, _<_}
 use mathlib.Core.Path.{_≡_, refl, sym, ap, _∙_}
 use mathlib.Core.Bool.{Bool, true, false, cond}
-use native.Mathlib.Nat.{mod-eq-sub-mod, div-eq-sub-div, div-eq-of-lt, mod-eq-of-lt, add-comm, zero-add, le-refl}
+use native.Mathlib.Nat.{mod-eq-sub-mod, div-eq-sub-div, div-eq-of-lt, mod-eq-of-lt, mod-lt, div-add-mod', suc-mul, add-comm, zero-add, le-refl}
 use native.Mathlib.Omega.{arith}
+use lib.Arith.{digits-div, digits-mod}
 use lib.Dec.{eqb, ltb}
 use borrow.Author.Tests.{ne-eqb, ltb-true, ltb-false, eqb-true, eqb-false}
 use Rattle.timer.specs.Countdown.{unit, left, ranOut}
@@ -119,3 +120,44 @@ module _ (period n first : ℕ) (p : 1 ≤ period) (q : 1 ≤ first) (h : first 
           times-after period n first p q l
           ∙ ap (λ (m : ℕ). m / period + 1) (omega arith)
           ∙ sym (div-eq-sub-div {m = period} p (omega arith))
+
+-- ---- one that has at most its period left, by the whole periods and the rest of n
+module _ (period n first : ℕ) (q : 1 ≤ first) (h : first ≤ period) where
+  abbrev w : ℕ
+  w = n / period
+
+  abbrev r : ℕ
+  r = n % period
+
+  rest-below : r < period
+  rest-below = mod-lt n (omega arith)
+
+  -- what stands in `left-either` and `times-either`, by whole periods and a rest below one
+  few : r < first → n + period - first ≡ w * period + (r + period - first)
+  few l = omega (arith, div-add-mod' n period)
+
+  more : first ≤ r → n + period - first ≡ suc w * period + (r - first)
+  more l = omega (arith, div-add-mod' n period, suc-mul w period)
+
+  pub left-few : r < first → left period n first ≡ first - r
+  left-few l =
+      left-either period n first (omega arith) q (omega arith)
+      ∙ ap (λ (m : ℕ). period - m % period) (few l)
+      ∙ ap (λ (m : ℕ). period - m) (digits-mod w (omega arith))
+      ∙ (let k = rest-below in omega arith)
+
+  pub times-few : r < first → ranOut period n first ≡ w
+  times-few l = times-either period n first (omega arith) q (omega arith) ∙ ap (λ (m : ℕ). m / period) (few l) ∙ digits-div w (omega arith)
+
+  pub left-more : first ≤ r → left period n first ≡ period - (r - first)
+  left-more l =
+      left-either period n first (omega arith) q (omega arith)
+      ∙ ap (λ (m : ℕ). period - m % period) (more l)
+      ∙ ap (λ (m : ℕ). period - m) (digits-mod (suc w) (omega (arith, rest-below)))
+
+  pub times-more : first ≤ r → ranOut period n first ≡ w + 1
+  times-more l =
+      times-either period n first (omega arith) q (omega arith)
+      ∙ ap (λ (m : ℕ). m / period) (more l)
+      ∙ digits-div (suc w) (omega (arith, rest-below))
+      ∙ omega arith

@@ -42,9 +42,29 @@ struct Down {
 
 const DIVISORS: [u8; 8] = [0, 4, 10, 16, 50, 64, 100, 200];
 
-// n units of a countdown that has `first` units left and starts anew from `period`. It divides
-// whatever n is, so that a long span costs what a short one costs; only a countdown that starts above
-// its period may have run for nothing.
+// n units of a countdown that has `first` units left and starts anew from `period`, where it has no
+// more than that left. This one and `count` divide whatever n is: a long span costs what a short one
+// costs.
+fn count_within(first: u32, period: u32, n: u32) -> Counted
+    requires { ⌜ 1 ≤ first ⌝ }
+    requires { ⌜ first ≤ period ⌝ }
+    ensures { λ r. ⌜ (r .times ≡ ranOut period n first) × (r .left ≡ left period n first) ⌝ }
+{
+    let whole = n / period;
+    let rest = n % period;
+    if rest < first {
+        return Counted {
+            times: whole,
+            left: first - rest,
+        };
+    }
+    Counted {
+        times: whole + 1,
+        left: period - (rest - first),
+    }
+}
+
+// The same of any countdown: one that has more than its period left may not have run out yet.
 fn count(first: u32, period: u32, n: u32) -> Counted
     requires { ⌜ 1 ≤ first ⌝ }
     requires { ⌜ 1 ≤ period ⌝ }
@@ -227,7 +247,7 @@ impl Timer {
         ensures { λ r. ⌜ (r .pulses ≡ pulsesIn n self) × (r .position ≡ positionAfter n self) ⌝ }
     {
         let d = divisor_of(self.mode) as u32;
-        let c = count(to_go(d, self.position), d, n);
+        let c = count_within(to_go(d, self.position), d, n);
         Along {
             pulses: c.times,
             position: ((d - c.left) % 256) as u8,

@@ -23,15 +23,15 @@ to-go-requires c κs = search needs
 within : (n p d first l : ℕ) → 1 ≤ d → first ≡ toGo d p → l ≡ left d n first → l ≤ d
 within n p d first l q e f = rw (f, e) (left-le d n (toGo d p) (toGo-bounds d p q .1))
 
-count-requires : tie.Need-count-requires
-count-requires c κs =
+count-within-requires : tie.Need-count-within-requires
+count-within-requires c κs =
     let d : 1 ≤ c .before .divisor-of .result = rw (c .before .divisor-of .ensures) (c .before .before .pre) in
-    (rw (c .to-go .ensures) (toGo-bounds _ _ d .0), d)
+    (rw (c .to-go .ensures) (toGo-bounds _ _ d .0), rw (c .to-go .ensures) (toGo-bounds _ _ d .1))
 
 sub-t6 : tie.Need-sub-t6
 sub-t6 c =
-    within (c .before .before .before .before .args .n) (c .before .before .before .before .args .self .position) (c .before .before .before .divisor-of .result) (c .before .before .to-go .result) (c .before .count .result .left)
-    (rw (c .before .before .before .divisor-of .ensures) (c .before .before .before .before .pre)) (c .before .before .to-go .ensures) (c .before .count .ensures .1)
+    within (c .before .before .before .before .args .n) (c .before .before .before .before .args .self .position) (c .before .before .before .divisor-of .result) (c .before .before .to-go .result) (c .before .count-within .result .left)
+    (rw (c .before .before .before .divisor-of .ensures) (c .before .before .before .before .pre)) (c .before .before .to-go .ensures) (c .before .count-within .ensures .1)
 
 cast-t5 : tie.Need-cast-t5
 cast-t5 c = search needs
@@ -43,9 +43,9 @@ returns : tie.Need-returns
 unfolding pulsesIn positionAfter
 returns c = (
   cc,
-  placed (c .before .before .before .before .args .n) (c .before .before .before .before .args .self .position) (c .before .before .before .divisor-of .result) _ (c .before .before .to-go .result) (c .before .count .result .left)
-      (omega arith) (c .before .before .before .divisor-of .ensures) (c .before .before .to-go .ensures) (c .before .count .ensures .1),
+  placed (c .before .before .before .before .args .n) (c .before .before .before .before .args .self .position) (c .before .before .before .divisor-of .result) _ (c .before .before .to-go .result) (c .before .count-within .result .left)
+      (omega arith) (c .before .before .before .divisor-of .ensures) (c .before .before .to-go .ensures) (c .before .count-within .ensures .1),
 )
 
 pub along-spec : {M : Type 1} → statement M
-along-spec = tie.close (tie.spec divisor-of-requires cast-d to-go-requires count-requires sub-t6 cast-t5 returns)
+along-spec = tie.close (tie.spec divisor-of-requires cast-d to-go-requires count-within-requires sub-t6 cast-t5 returns)

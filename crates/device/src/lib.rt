@@ -570,14 +570,15 @@ fn bit_if(b: bool, n: u8) -> u8
     0
 }
 
-fn done_with(d: Device) -> Stepped
-    ensures { λ r. ⌜ r ≡ done d ⌝ }
+// An event whose whole work is to leave this device.
+fn done_with(d: Device) -> Begun
+    ensures { λ r. ⌜ r ≡ Begun.Whole (done d) ⌝ }
 {
-    Stepped {
+    Begun::Whole(Stepped {
         device: d,
         answer: Answer::Done,
         timeouts: Timeouts::zero(),
-    }
+    })
 }
 
 impl Device {
@@ -631,7 +632,7 @@ impl Device {
         match r {
             Register::Gpdr => {
                 l.gpdr = v;
-                Begun::Whole(done_with(self.with_lines(l)))
+                done_with(self.with_lines(l))
             }
             Register::Aer => {
                 l.aer = v;
@@ -639,35 +640,20 @@ impl Device {
             }
             Register::Ddr => {
                 l.ddr = v;
-                Begun::Whole(done_with(self.with_lines(l)))
+                done_with(self.with_lines(l))
             }
-            Register::Ier(h) => Begun::Whole(done_with(self.with_interrupts(i.write_enabled(
-                h,
-                v,
-            )))),
-            Register::Ipr(h) => Begun::Whole(done_with(self.with_interrupts(i.write_pending(
-                h,
-                v,
-            )))),
-            Register::Isr(h) => Begun::Whole(done_with(self.with_interrupts(i.write_service(
-                h,
-                v,
-            )))),
-            Register::Imr(h) => Begun::Whole(done_with(self.with_interrupts(i.write_mask(h, v)))),
-            Register::Vr => Begun::Whole(done_with(self.with_interrupts(i.write_vector(v)))),
-            Register::Tacr => Begun::Whole(done_with(self.with_a(a.control(
-                v % 16,
-                v / 16 % 2 == 1,
-            )))),
-            Register::Tbcr => Begun::Whole(done_with(self.with_b(b.control(
-                v % 16,
-                v / 16 % 2 == 1,
-            )))),
-            Register::Tcdcr => Begun::Whole(done_with(self.write_tcdcr(v))),
-            Register::Tadr => Begun::Whole(done_with(self.with_a(a.write(v)))),
-            Register::Tbdr => Begun::Whole(done_with(self.with_b(b.write(v)))),
-            Register::Tcdr => Begun::Whole(done_with(self.with_c(c.write(v)))),
-            Register::Tddr => Begun::Whole(done_with(self.with_d(d.write(v)))),
+            Register::Ier(h) => done_with(self.with_interrupts(i.write_enabled(h, v))),
+            Register::Ipr(h) => done_with(self.with_interrupts(i.write_pending(h, v))),
+            Register::Isr(h) => done_with(self.with_interrupts(i.write_service(h, v))),
+            Register::Imr(h) => done_with(self.with_interrupts(i.write_mask(h, v))),
+            Register::Vr => done_with(self.with_interrupts(i.write_vector(v))),
+            Register::Tacr => done_with(self.with_a(a.control(v % 16, v / 16 % 2 == 1))),
+            Register::Tbcr => done_with(self.with_b(b.control(v % 16, v / 16 % 2 == 1))),
+            Register::Tcdcr => done_with(self.write_tcdcr(v)),
+            Register::Tadr => done_with(self.with_a(a.write(v))),
+            Register::Tbdr => done_with(self.with_b(b.write(v))),
+            Register::Tcdr => done_with(self.with_c(c.write(v))),
+            Register::Tddr => done_with(self.with_d(d.write(v))),
         }
     }
 
@@ -698,7 +684,7 @@ impl Device {
         ensures { λ b. ⌜ finished b self ≡ stepOf self e ⌝ }
     {
         match e {
-            Event::Reset => Begun::Whole(done_with(self.reset())),
+            Event::Reset => done_with(self.reset()),
             Event::Read(r) => {
                 let v = self.read(r);
                 Begun::Whole(Stepped {
@@ -720,7 +706,7 @@ impl Device {
             Event::Acknowledge(iei) => Begun::Whole(self.acknowledge(iei)),
             Event::Raise(c) => {
                 let i = self.interrupts;
-                Begun::Whole(done_with(self.with_interrupts(i.raise(interrupts::set_of(c)))))
+                done_with(self.with_interrupts(i.raise(interrupts::set_of(c))))
             }
         }
     }

@@ -1,12 +1,12 @@
--- Requests: the walk from channel 15 down, and what an acknowledge answers. Assumes nothing.
+-- Requests: the walk from channel 15 down, and IRQ as "some channel requests". Assumes nothing.
 use Prim.Native.Nat.{ℕ, zero, suc, _-_, _^_, _≤_, _<_}
 use mathlib.Core.Path.{_≡_, refl, sym, ap, ap₂, _∙_}
-use mathlib.Core.Bool.{Bool, true, false, cond, _&&_}
+use mathlib.Core.Bool.{Bool, true, false, cond, _&&_, _||_}
 use native.Mathlib.Omega.{arith}
 use lib.Bits.{bitAnd}
 use lib.Dec.{ltb}
 use Rattle.interrupts.specs.Channels.{has, channel}
-use Rattle.interrupts.specs.Interrupts.{requests, highestBelow, highest, given, vectorOf, acknowledgedBy, acknowledged}
+use Rattle.interrupts.specs.Interrupts.{requests, someRequests, irq, highestBelow, highest, given, vectorOf, acknowledgedBy, acknowledged}
 use Rattle.interrupts.specs.declared.Channel.{Channel}
 use Rattle.interrupts.specs.declared.Interrupts.{Interrupts}
 use Rattle.interrupts.specs.declared.Requesting.{Requesting}
@@ -40,6 +40,24 @@ pub walk-on : (i : Interrupts) (n : ℕ) → 1 ≤ n → requests i (n - 1) ≡ 
 unfolding highestBelow
 walk-on i zero h e = absurd (omega arith)
 walk-on i (suc c) h e = let p : suc c - 1 ≡ c = omega arith in rw p (rw (rw p at e) refl)
+
+-- ---- IRQ is asserted exactly where the walk finds a channel
+abbrev pub found : Requesting → Bool
+found (By c) = true
+found Nobody = false
+
+found-some : (i : Interrupts) (n : ℕ) → found (highestBelow n i) ≡ someRequests n i
+unfolding highestBelow someRequests
+found-some i zero = refl
+found-some i (suc c) = go (requests i c) (found-some i c)
+  where
+    go : (b : Bool) → found (highestBelow c i) ≡ someRequests c i → found (cond b (By (channel c)) (highestBelow c i)) ≡ (b || someRequests c i)
+    go true e = refl
+    go false e = e
+
+pub irq-found : (i : Interrupts) → found (highest i) ≡ irq i
+unfolding irq highest
+irq-found i = found-some i 16
 
 -- ---- the channel found is one of those walked over
 highest-below : (i : Interrupts) (n : ℕ) (c : Channel) → highestBelow n i ≡ By c → c .0 < n

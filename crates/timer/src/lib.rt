@@ -1,7 +1,7 @@
 // One timer of the MC68901: its mode, data value (`reload`), main counter, prescaler position and
-// output. The rules stand in specs/Timers.antt, one clock at a time; `advanced` and `timeouts` take
-// any number of clocks at once, without a loop. A method takes the timer and hands back the timer
-// as it then is. Every one is total: it asks nothing of its timer.
+// output. The rules stand in specs/Timers.antt, one clock at a time; `clocks` takes any number of them
+// at once, without a loop. A method takes the timer and hands back the timer as it then is, written
+// out whole. Every one is total: it asks nothing of its timer.
 ghost use mathlib.Core.Path.{_≡_};
 ghost use mathlib.Core.Bool.{not, _&&_};
 ghost use Prim.Native.Nat.{_≤_};
@@ -64,7 +64,8 @@ fn count_within(first: u32, period: u32, n: u32) -> Counted
     }
 }
 
-// The same of any countdown: one that has more than its period left may not have run out yet.
+// The same of any countdown, reckoned as if it had set out a period earlier. One that has more than its
+// period left may not have come that far.
 fn count(first: u32, period: u32, n: u32) -> Counted
     requires { ⌜ 1 ≤ first ⌝ }
     requires { ⌜ 1 ≤ period ⌝ }

@@ -7,10 +7,11 @@ use Rattle.device.specs.declared.Device.{Device}
 use Rattle.device.specs.declared.Lines.{Lines}
 use Rattle.device.specs.declared.Event.{Event}
 use Rattle.device.specs.declared.Stepped.{Stepped}
+use Rattle.device.specs.declared.Begun.{Begun}
 use Rattle.device.specs.declared.Answer.the-variants.{Done, Data}
 use Rattle.device.specs.Signals.{signalled, signalTimeouts}
 use Rattle.device.specs.Registers.{withInterrupts}
-use Rattle.device.specs.Events.{done, stepOf}
+use Rattle.device.specs.Events.{done, stepOf, finished}
 use Rattle.device.proofs.Device.begin.Statement.{statement}
 use Rattle.device.proofs.Device.begin.Tie as tie
 
@@ -89,7 +90,7 @@ returns : tie.Need-returns
 unfolding stepOf
 returns c =
     let a = c .before .before .before .before .args in
-    did (a .self) (a .e) _ (c .before .before .enum-told .given .1) (c .done-with .ensures ∙ ap done (c .before .reset .ensures))
+    did (a .self) (a .e) _ (c .before .before .enum-told .given .1) (ap (λ (b : Begun). finished b (a .self)) (c .done-with .ensures) ∙ ap done (c .before .reset .ensures))
 
 returns-2 : tie.Need-returns-2
 unfolding stepOf
@@ -131,7 +132,7 @@ returns-8 : tie.Need-returns-8
 unfolding stepOf
 returns-8 c =
     let a = c .before .before .before .before .before .before .before .before .args in
-    did (a .self) (a .e) _ (c .before .before .before .before .before .before .e7 .given .1) (c .done-with2 .ensures ∙ ap done (c .before .with-interrupts .ensures ∙ ap (λ x. withInterrupts x (a .self)) (c .before .before .raise .ensures ∙ ap (λ (s : ℕ). raised s (a .self .interrupts)) (c .before .before .before .set-of .ensures))))
+    did (a .self) (a .e) _ (c .before .before .before .before .before .before .e7 .given .1) (ap (λ (b : Begun). finished b (a .self)) (c .done-with2 .ensures) ∙ ap done (c .before .with-interrupts .ensures ∙ ap (λ x. withInterrupts x (a .self)) (c .before .before .raise .ensures ∙ ap (λ (s : ℕ). raised s (a .self .interrupts)) (c .before .before .before .set-of .ensures))))
 
 pub begin-spec : {M : Type 1} → statement M
 begin-spec =

@@ -6,9 +6,10 @@ use Rattle.interrupts.specs.Channels.{has}
 use Rattle.device.specs.declared.Device.{Device}
 use Rattle.device.specs.declared.Register.{Register}
 use Rattle.device.specs.declared.Stepped.{Stepped}
+use Rattle.device.specs.declared.Begun.{Begun}
 use Rattle.device.specs.declared.Event.the-variants.{Write}
 use Rattle.device.specs.Registers.{writeOf, writeTimeouts, withInterrupts, withA, withB, withC, withD}
-use Rattle.device.specs.Events.{done, stepOf}
+use Rattle.device.specs.Events.{done, stepOf, finished}
 use Rattle.device.proofs.Device.begin_write.Statement.{statement}
 use Rattle.device.proofs.Device.begin_write.Tie as tie
 
@@ -182,7 +183,7 @@ returns : tie.Need-returns
 unfolding stepOf writeOf writeTimeouts has
 returns c =
     let a = c .before .before .before .before .before .before .before .before .before .before .before .args in
-    did (a .self) (a .v) (a .r) _ (c .before .before .enum-told .given .1) (c .done-with .ensures ∙ ap done (c .before .with-lines .ensures))
+    did (a .self) (a .v) (a .r) _ (c .before .before .enum-told .given .1) (ap (λ (b : Begun). finished b (a .self)) (c .done-with .ensures) ∙ ap done (c .before .with-lines .ensures))
 
 returns-2 : tie.Need-returns-2
 unfolding stepOf writeOf writeTimeouts has
@@ -194,79 +195,79 @@ returns-3 : tie.Need-returns-3
 unfolding stepOf writeOf writeTimeouts has
 returns-3 c =
     let a = c .before .before .before .before .before .before .before .before .before .before .before .args in
-    did (a .self) (a .v) (a .r) _ (c .before .before .enum-told3 .given .1) (c .done-with2 .ensures ∙ ap done (c .before .with-lines2 .ensures))
+    did (a .self) (a .v) (a .r) _ (c .before .before .enum-told3 .given .1) (ap (λ (b : Begun). finished b (a .self)) (c .done-with2 .ensures) ∙ ap done (c .before .with-lines2 .ensures))
 
 returns-4 : tie.Need-returns-4
 unfolding stepOf writeOf writeTimeouts has
 returns-4 c =
     let a = c .before .before .before .before .before .before .before .before .before .before .before .before .before .args in
-    did (a .self) (a .v) (a .r) _ (c .before .before .before .before .r .given .1) (c .done-with3 .ensures ∙ ap done (c .before .with-interrupts .ensures ∙ ap (λ x. withInterrupts x (a .self)) (c .before .before .write-enabled .ensures)))
+    did (a .self) (a .v) (a .r) _ (c .before .before .before .before .r .given .1) (ap (λ (b : Begun). finished b (a .self)) (c .done-with3 .ensures) ∙ ap done (c .before .with-interrupts .ensures ∙ ap (λ x. withInterrupts x (a .self)) (c .before .before .write-enabled .ensures)))
 
 returns-5 : tie.Need-returns-5
 unfolding stepOf writeOf writeTimeouts has
 returns-5 c =
     let a = c .before .before .before .before .before .before .before .before .before .before .before .before .before .args in
-    did (a .self) (a .v) (a .r) _ (c .before .before .before .before .r2 .given .1) (c .done-with4 .ensures ∙ ap done (c .before .with-interrupts2 .ensures ∙ ap (λ x. withInterrupts x (a .self)) (c .before .before .write-pending .ensures)))
+    did (a .self) (a .v) (a .r) _ (c .before .before .before .before .r2 .given .1) (ap (λ (b : Begun). finished b (a .self)) (c .done-with4 .ensures) ∙ ap done (c .before .with-interrupts2 .ensures ∙ ap (λ x. withInterrupts x (a .self)) (c .before .before .write-pending .ensures)))
 
 returns-6 : tie.Need-returns-6
 unfolding stepOf writeOf writeTimeouts has
 returns-6 c =
     let a = c .before .before .before .before .before .before .before .before .before .before .before .before .before .args in
-    did (a .self) (a .v) (a .r) _ (c .before .before .before .before .r3 .given .1) (c .done-with5 .ensures ∙ ap done (c .before .with-interrupts3 .ensures ∙ ap (λ x. withInterrupts x (a .self)) (c .before .before .write-service .ensures)))
+    did (a .self) (a .v) (a .r) _ (c .before .before .before .before .r3 .given .1) (ap (λ (b : Begun). finished b (a .self)) (c .done-with5 .ensures) ∙ ap done (c .before .with-interrupts3 .ensures ∙ ap (λ x. withInterrupts x (a .self)) (c .before .before .write-service .ensures)))
 
 returns-7 : tie.Need-returns-7
 unfolding stepOf writeOf writeTimeouts has
 returns-7 c =
     let a = c .before .before .before .before .before .before .before .before .before .before .before .before .before .args in
-    did (a .self) (a .v) (a .r) _ (c .before .before .before .before .r4 .given .1) (c .done-with6 .ensures ∙ ap done (c .before .with-interrupts4 .ensures ∙ ap (λ x. withInterrupts x (a .self)) (c .before .before .write-mask .ensures)))
+    did (a .self) (a .v) (a .r) _ (c .before .before .before .before .r4 .given .1) (ap (λ (b : Begun). finished b (a .self)) (c .done-with6 .ensures) ∙ ap done (c .before .with-interrupts4 .ensures ∙ ap (λ x. withInterrupts x (a .self)) (c .before .before .write-mask .ensures)))
 
 returns-8 : tie.Need-returns-8
 unfolding stepOf writeOf writeTimeouts has
 returns-8 c =
     let a = c .before .before .before .before .before .before .before .before .before .before .before .before .args in
-    did (a .self) (a .v) (a .r) _ (c .before .before .before .enum-told4 .given .1) (c .done-with7 .ensures ∙ ap done (c .before .with-interrupts5 .ensures ∙ ap (λ x. withInterrupts x (a .self)) (c .before .before .write-vector .ensures)))
+    did (a .self) (a .v) (a .r) _ (c .before .before .before .enum-told4 .given .1) (ap (λ (b : Begun). finished b (a .self)) (c .done-with7 .ensures) ∙ ap done (c .before .with-interrupts5 .ensures ∙ ap (λ x. withInterrupts x (a .self)) (c .before .before .write-vector .ensures)))
 
 returns-9 : tie.Need-returns-9
 unfolding stepOf writeOf writeTimeouts has
 returns-9 c =
     let a = c .before .before .before .before .before .before .before .before .before .before .before .before .args in
-    did (a .self) (a .v) (a .r) _ (c .before .before .before .enum-told5 .given .1) (c .done-with8 .ensures ∙ ap done (c .before .with-a .ensures ∙ ap (λ x. withA x (a .self)) (c .before .before .control .ensures)))
+    did (a .self) (a .v) (a .r) _ (c .before .before .before .enum-told5 .given .1) (ap (λ (b : Begun). finished b (a .self)) (c .done-with8 .ensures) ∙ ap done (c .before .with-a .ensures ∙ ap (λ x. withA x (a .self)) (c .before .before .control .ensures)))
 
 returns-10 : tie.Need-returns-10
 unfolding stepOf writeOf writeTimeouts has
 returns-10 c =
     let a = c .before .before .before .before .before .before .before .before .before .before .before .before .args in
-    did (a .self) (a .v) (a .r) _ (c .before .before .before .enum-told6 .given .1) (c .done-with9 .ensures ∙ ap done (c .before .with-b .ensures ∙ ap (λ x. withB x (a .self)) (c .before .before .control2 .ensures)))
+    did (a .self) (a .v) (a .r) _ (c .before .before .before .enum-told6 .given .1) (ap (λ (b : Begun). finished b (a .self)) (c .done-with9 .ensures) ∙ ap done (c .before .with-b .ensures ∙ ap (λ x. withB x (a .self)) (c .before .before .control2 .ensures)))
 
 returns-11 : tie.Need-returns-11
 unfolding stepOf writeOf writeTimeouts has
 returns-11 c =
     let a = c .before .before .before .before .before .before .before .before .before .before .before .args in
-    did (a .self) (a .v) (a .r) _ (c .before .before .enum-told7 .given .1) (c .done-with10 .ensures ∙ ap done (c .before .write-tcdcr .ensures))
+    did (a .self) (a .v) (a .r) _ (c .before .before .enum-told7 .given .1) (ap (λ (b : Begun). finished b (a .self)) (c .done-with10 .ensures) ∙ ap done (c .before .write-tcdcr .ensures))
 
 returns-12 : tie.Need-returns-12
 unfolding stepOf writeOf writeTimeouts has
 returns-12 c =
     let a = c .before .before .before .before .before .before .before .before .before .before .before .before .args in
-    did (a .self) (a .v) (a .r) _ (c .before .before .before .enum-told8 .given .1) (c .done-with11 .ensures ∙ ap done (c .before .with-a2 .ensures ∙ ap (λ x. withA x (a .self)) (c .before .before .write .ensures)))
+    did (a .self) (a .v) (a .r) _ (c .before .before .before .enum-told8 .given .1) (ap (λ (b : Begun). finished b (a .self)) (c .done-with11 .ensures) ∙ ap done (c .before .with-a2 .ensures ∙ ap (λ x. withA x (a .self)) (c .before .before .write .ensures)))
 
 returns-13 : tie.Need-returns-13
 unfolding stepOf writeOf writeTimeouts has
 returns-13 c =
     let a = c .before .before .before .before .before .before .before .before .before .before .before .before .args in
-    did (a .self) (a .v) (a .r) _ (c .before .before .before .enum-told9 .given .1) (c .done-with12 .ensures ∙ ap done (c .before .with-b2 .ensures ∙ ap (λ x. withB x (a .self)) (c .before .before .write2 .ensures)))
+    did (a .self) (a .v) (a .r) _ (c .before .before .before .enum-told9 .given .1) (ap (λ (b : Begun). finished b (a .self)) (c .done-with12 .ensures) ∙ ap done (c .before .with-b2 .ensures ∙ ap (λ x. withB x (a .self)) (c .before .before .write2 .ensures)))
 
 returns-14 : tie.Need-returns-14
 unfolding stepOf writeOf writeTimeouts has
 returns-14 c =
     let a = c .before .before .before .before .before .before .before .before .before .before .before .before .args in
-    did (a .self) (a .v) (a .r) _ (c .before .before .before .enum-told10 .given .1) (c .done-with13 .ensures ∙ ap done (c .before .with-c .ensures ∙ ap (λ x. withC x (a .self)) (c .before .before .write3 .ensures)))
+    did (a .self) (a .v) (a .r) _ (c .before .before .before .enum-told10 .given .1) (ap (λ (b : Begun). finished b (a .self)) (c .done-with13 .ensures) ∙ ap done (c .before .with-c .ensures ∙ ap (λ x. withC x (a .self)) (c .before .before .write3 .ensures)))
 
 returns-15 : tie.Need-returns-15
 unfolding stepOf writeOf writeTimeouts has
 returns-15 c =
     let a = c .before .before .before .before .before .before .before .before .before .before .before .before .args in
-    did (a .self) (a .v) (a .r) _ (c .before .before .before .enum-told11 .given .1) (c .done-with14 .ensures ∙ ap done (c .before .with-d .ensures ∙ ap (λ x. withD x (a .self)) (c .before .before .write4 .ensures)))
+    did (a .self) (a .v) (a .r) _ (c .before .before .before .enum-told11 .given .1) (ap (λ (b : Begun). finished b (a .self)) (c .done-with14 .ensures) ∙ ap done (c .before .with-d .ensures ∙ ap (λ x. withD x (a .self)) (c .before .before .write4 .ensures)))
 
 pub begin-write-spec : {M : Type 1} → statement M
 begin-write-spec =

@@ -69,7 +69,7 @@ unfolding lineRaises lineActive muted
 raising t before after o e i h =
     rw e
     (simp (has-and, has-xor, has-all i h)
-    (rw (heard-is (pulseWidth (t .a .mode)) (pulseWidth (t .b .mode)) i h, flip, flip, twice, beq-comm (has (before .aer) i), beq-comm (has (after .aer) i)) refl))
+    (rw (heard-is (pulseWidth (t .a .mode)) (pulseWidth (t .b .mode)) i h, flip (not (Bool·beq (has (after .aer) i) (has (after .levels) i))), flip (has (before .ddr) i), twice, beq-comm (has (before .aer) i), beq-comm (has (after .aer) i)) refl))
 
 -- ---- the mask of one line
 pub shifted : (i : ℕ) → i < 8 → 1 * 2 ^ i % 256 ≡ 2 ^ i

@@ -19,8 +19,8 @@ ghost use lib.ListN.{length, take, drop};
 ghost use Rattle.device.specs.declared.Register.{Register as RegisterT};
 ghost use Rattle.device.specs.declared.Event.{Event as EventT};
 ghost use Rattle.device.specs.Events.{stepOf, bit};
-ghost use Rattle.tape.specs.Records.{registerOf, reading, inputOf, eventOf, number, decoded, verdictOf, recordAt, firstBad, events};
-ghost use Rattle.tape.specs.Answers.{four, answerOf};
+ghost use Rattle.tape.specs.Records.{recordBytes, registerOf, reading, inputOf, eventOf, number, decoded, verdictOf, recordAt, firstBad, events};
+ghost use Rattle.tape.specs.Answers.{answerBytes, four, answerOf};
 ghost use Rattle.tape.specs.Runs.{runOf, answersOf, code, tapeResult, resultOf, imageAfter, answersAfter};
 
 pub const RECORD_BYTES: usize = 8;
@@ -124,7 +124,7 @@ fn number_of(p: u8, q: u8, r: u8, s: u8) -> u32
 // The event of the record that starts at byte `at`, if the check lets it pass. The event is written
 // out in each arm, not handed on from a call: so the compiler keeps it in registers.
 fn event_at(tape: &[u8], at: usize) -> Event
-    requires { ⌜ at + 8 ≤ length (now tape) ⌝ }
+    requires { ⌜ at + recordBytes ≤ length (now tape) ⌝ }
     ensures { λ r. ⌜ ((e : EventT) → decoded (now (tape .entry)) at ≡ Decoded.Valid e → r ≡ e) ⌝ }
 {
     let a = tape[at + 3];
@@ -192,7 +192,7 @@ fn verdict_of(kind: u8, a: u8, n: u32) -> Verdict
 
 // What the check finds of the record that starts at byte `at`: refusal 5 first.
 fn verdict_at(tape: &[u8], at: usize) -> Verdict
-    requires { ⌜ at + 8 ≤ length (now tape) ⌝ }
+    requires { ⌜ at + recordBytes ≤ length (now tape) ⌝ }
     ensures { λ r. ⌜ r ≡ verdictOf (decoded (now (tape .entry)) at) ⌝ }
 {
     if tape[at] != MARK_0 {
@@ -223,7 +223,7 @@ pub fn record_at(tape: &[u8], i: usize) -> Decoded
 // ---- the check of all records
 
 fn check_records(tape: &[u8], n: usize) -> Checked
-    requires { ⌜ n * 8 ≤ length (now tape) ⌝ }
+    requires { ⌜ n * recordBytes ≤ length (now tape) ⌝ }
     ensures { λ r. ⌜ r ≡ firstBad (now (tape .entry)) 0 n ⌝ }
 {
     let mut i = 0;
@@ -288,8 +288,8 @@ fn put(b: &[u8], answers: &mut [u8], at: usize)
 // Writes an answer at byte `at` and leaves every other byte. Each count is put by itself: the compiler
 // then stores it in one move.
 fn put_answer(s: Stepped, answers: &mut [u8], at: usize)
-    requires { ⌜ at + 22 ≤ length (now answers) ⌝ }
-    ensures { λ _. ⌜ now (answers .exit) ≡ take at (now (answers .entry)) ++ answerOf s ++ drop (at + 22) (now (answers .entry)) ⌝ }
+    requires { ⌜ at + answerBytes ≤ length (now answers) ⌝ }
+    ensures { λ _. ⌜ now (answers .exit) ≡ take at (now (answers .entry)) ++ answerOf s ++ drop (at + answerBytes) (now (answers .entry)) ⌝ }
 {
     let n = s.timeouts;
     let h = head(s);
@@ -345,10 +345,10 @@ pub fn check(tape: &[u8], room: usize) -> u32
 
 // Runs the n records of a checked tape from device d, and writes their answers.
 fn run_records(d: Device, tape: &[u8], answers: &mut [u8], n: usize) -> Device
-    requires { ⌜ n * 8 ≤ length (now tape) ⌝ }
-    requires { ⌜ n * 22 ≤ length (now answers) ⌝ }
+    requires { ⌜ n * recordBytes ≤ length (now tape) ⌝ }
+    requires { ⌜ n * answerBytes ≤ length (now answers) ⌝ }
     requires { ⌜ firstBad (now tape) 0 n ≡ Checked.Fine ⌝ }
-    ensures { λ r. ⌜ (r ≡ runOf d (events (now (tape .entry)) 0 n)) × (now (answers .exit) ≡ answersOf d (events (now (tape .entry)) 0 n) ++ drop (n * 22) (now (answers .entry))) ⌝ }
+    ensures { λ r. ⌜ (r ≡ runOf d (events (now (tape .entry)) 0 n)) × (now (answers .exit) ≡ answersOf d (events (now (tape .entry)) 0 n) ++ drop (n * answerBytes) (now (answers .entry))) ⌝ }
 {
     let mut at = d;
     let mut i = 0;

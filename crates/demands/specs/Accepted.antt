@@ -19,7 +19,7 @@ use Rattle.tape.specs.declared.Selected.{Selected}
 use Rattle.tape.specs.declared.Selected.the-variants.{Known, SerialPort}
 use Rattle.tape.specs.declared.Decoded.{Decoded}
 use Rattle.tape.specs.declared.Decoded.the-variants.{Valid, Invalid}
-use Rattle.tape.specs.Records.{mark0, mark1, registerOf, reading, writing, inputOf, inRange, eventOf, number, decoded, records, events·at, events, eventsOf}
+use Rattle.tape.specs.Records.{recordBytes, mark0, mark1, registerOf, reading, writing, inputOf, inRange, eventOf, number, decoded, records, events·at, events, eventsOf}
 use Rattle.tape.specs.Runs.{runOf, resultOf, imageAfter}
 use Rattle.demands.specs.Rule.{Bytes, every-event-keeps-the-rule}
 use Rattle.demands.specs.Images.{load-of-save}
@@ -75,7 +75,7 @@ AllBytes (e ∷ es) = Bytes e × AllBytes es
 pub tape-bytes : (tape : List ℕ) (k i : ℕ) → AllBytes (events tape i k)
 unfolding events
 tape-bytes tape zero i = tt
-tape-bytes tape (suc k) i = go (decoded tape (i * 8)) (decoded-good tape (i * 8)) (tape-bytes tape k (i + 1))
+tape-bytes tape (suc k) i = go (decoded tape (i * recordBytes)) (decoded-good tape (i * recordBytes)) (tape-bytes tape k (i + 1))
   where
     go : (d : Decoded) → Good d → AllBytes (events tape (i + 1) k) → AllBytes (events·at d (events tape (i + 1) k))
     go (Valid e) g rest = (g, rest)

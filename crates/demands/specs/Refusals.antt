@@ -15,7 +15,7 @@ use Rattle.device.specs.declared.Refusal.the-variants.{ImageLength, ImageMark, 
 use Rattle.device.specs.Events.{imageRule}
 use Rattle.image.specs.declared.Loaded.{Loaded}
 use Rattle.image.specs.declared.Loaded.the-variants.{Accepted, Refused}
-use Rattle.image.specs.Image.{mark0, mark1, byte, imageOf, deviceOf, unusedZero, loadOf}
+use Rattle.image.specs.Image.{imageBytes, mark0, mark1, byte, imageOf, deviceOf, unusedZero, loadOf}
 use Rattle.image.proofs.Loads.{read}
 use Rattle.tape.specs.declared.Selected.{Selected}
 use Rattle.tape.specs.declared.Selected.the-variants.{SerialPort}
@@ -23,7 +23,7 @@ use Rattle.tape.specs.declared.Decoded.{Decoded}
 use Rattle.tape.specs.declared.Decoded.the-variants.{Valid, Invalid}
 use Rattle.tape.specs.declared.Checked.{Checked}
 use Rattle.tape.specs.declared.Checked.the-variants.{Fine, Bad}
-use Rattle.tape.specs.Records.{registers, registerOf, reading, writing, kinds, eventOf, number, records, decoded, firstBad·at, firstBad, eventsOf}
+use Rattle.tape.specs.Records.{recordBytes, registers, registerOf, reading, writing, kinds, eventOf, number, records, decoded, firstBad·at, firstBad, eventsOf}
 use Rattle.tape.specs.Answers.{answerBytes}
 use Rattle.tape.specs.Runs.{runOf, answersOf, fitting, code, tapeResult, resultOf, imageAfter, answersAfter}
 use Rattle.tape.proofs.Checks.{code-above}
@@ -41,7 +41,7 @@ lawful image = unusedZero image && imageRule (deviceOf image)
 -- a record that has an event
 pub record Sound (tape : List ℕ) (i : ℕ) : Type 0 where
   pub event : Event
-  pub means : decoded tape (i * 8) ≡ Valid event
+  pub means : decoded tape (i * recordBytes) ≡ Valid event
 
 -- every record before the i-th has its event
 abbrev pub SoundBefore : List ℕ → ℕ → Type 0
@@ -50,15 +50,15 @@ SoundBefore tape i = (j : ℕ) → j < i → Sound tape j
 -- image, tape and the answer buffer's length; what the call returns
 pub data Given (image tape : List ℕ) (room : ℕ) : ℕ → Type 0 where
   -- 1 image buffer is not 32 bytes
-  length-wrong : (length image ≡ 32 → ⊥) → Given image tape room (code ImageLength 0)
+  length-wrong : (length image ≡ imageBytes → ⊥) → Given image tape room (code ImageLength 0)
   -- 2 image mark wrong
-  mark-wrong : length image ≡ 32 → marked image ≡ false → Given image tape room (code ImageMark 0)
+  mark-wrong : length image ≡ imageBytes → marked image ≡ false → Given image tape room (code ImageMark 0)
   -- 3 image [..] breaks the image rule
-  rule-broken : length image ≡ 32 → marked image ≡ true → lawful image ≡ false → Given image tape room (code ImageRule 0)
+  rule-broken : length image ≡ imageBytes → marked image ≡ true → lawful image ≡ false → Given image tape room (code ImageRule 0)
   -- 4 tape length not a multiple of 8, or above 4,096
   tape-wrong : loadOf image ≡ Accepted (deviceOf image) → fitting tape ≡ false → Given image tape room (code TapeLength 0)
   -- 5 record mark wrong, 6 kind above 7, 7 operand out of range, 8 read or write with rs 19 to 23: the first record that is refused
-  record-wrong : loadOf image ≡ Accepted (deviceOf image) → fitting tape ≡ true → (i : ℕ) → i < records tape → SoundBefore tape i → (r : Refusal) → decoded tape (i * 8) ≡ Invalid r → Given image tape room (code r i)
+  record-wrong : loadOf image ≡ Accepted (deviceOf image) → fitting tape ≡ true → (i : ℕ) → i < records tape → SoundBefore tape i → (r : Refusal) → decoded tape (i * recordBytes) ≡ Invalid r → Given image tape room (code r i)
   -- 9 answer buffer shorter than 22 × records
   room-wrong : loadOf image ≡ Accepted (deviceOf image) → fitting tape ≡ true → SoundBefore tape (records tape) → room < answerBytes * records tape → Given image tape room (code AnswerLength 0)
   -- no refusal
@@ -68,21 +68,21 @@ pub data Given (image tape : List ℕ) (room : ℕ) : ℕ → Type 0 where
 -- the first refused of the k records from the i-th on, all before it sound
 pub data First (tape : List ℕ) (n : ℕ) : Checked → Type 0 where
   none-bad : SoundBefore tape n → First tape n Fine
-  one-bad : (i : ℕ) → i < n → SoundBefore tape i → (r : Refusal) → decoded tape (i * 8) ≡ Invalid r → First tape n (Bad r i)
+  one-bad : (i : ℕ) → i < n → SoundBefore tape i → (r : Refusal) → decoded tape (i * recordBytes) ≡ Invalid r → First tape n (Bad r i)
 
-one-more : (tape : List ℕ) (i : ℕ) → SoundBefore tape i → (e : Event) → decoded tape (i * 8) ≡ Valid e → SoundBefore tape (i + 1)
+one-more : (tape : List ℕ) (i : ℕ) → SoundBefore tape i → (e : Event) → decoded tape (i * recordBytes) ≡ Valid e → SoundBefore tape (i + 1)
 one-more tape i s e p j h = go (eqb j i) refl
   where
     go : (b : Bool) → eqb j i ≡ b → Sound tape j
-    go true q = record { event = e; means = ap (λ (k : ℕ). decoded tape (k * 8)) (eqb-true j i q) ∙ p }
+    go true q = record { event = e; means = ap (λ (k : ℕ). decoded tape (k * recordBytes)) (eqb-true j i q) ∙ p }
     go false q = let f : j ≡ i → ⊥ = eqb-false j i q in s j (omega arith)
 
 first : (tape : List ℕ) (k i n : ℕ) → n ≡ i + k → SoundBefore tape i → First tape n (firstBad tape i k)
 unfolding firstBad
 first tape zero i n e s = none-bad (λ j h. s j (omega arith))
-first tape (suc k) i n e s = go (decoded tape (i * 8)) refl (λ x p. first tape k (i + 1) n (omega arith) (one-more tape i s x p))
+first tape (suc k) i n e s = go (decoded tape (i * recordBytes)) refl (λ x p. first tape k (i + 1) n (omega arith) (one-more tape i s x p))
   where
-    go : (d : Decoded) → decoded tape (i * 8) ≡ d → ((x : Event) → decoded tape (i * 8) ≡ Valid x → First tape n (firstBad tape (i + 1) k)) → First tape n (firstBad·at d i (firstBad tape (i + 1) k))
+    go : (d : Decoded) → decoded tape (i * recordBytes) ≡ d → ((x : Event) → decoded tape (i * recordBytes) ≡ Valid x → First tape n (firstBad tape (i + 1) k)) → First tape n (firstBad·at d i (firstBad tape (i + 1) k))
     go (Valid x) p f = f x p
     go (Invalid r) p f = one-bad i (omega arith) s r p
 
@@ -104,7 +104,7 @@ accepted image tape answers e = go (loadOf image) refl
 
 -- ---- every call has its row
 -- what loading an image of such tests gives
-loads : (image : List ℕ) (l m r : Bool) → eqb (length image) 32 ≡ l → marked image ≡ m → lawful image ≡ r
+loads : (image : List ℕ) (l m r : Bool) → eqb (length image) imageBytes ≡ l → marked image ≡ m → lawful image ≡ r
     → loadOf image ≡ cond l (cond m (cond r (Accepted (deviceOf image)) (Refused ImageRule)) (Refused ImageMark)) (Refused ImageLength)
 unfolding loadOf
 loads image l m r e f g = rw (e, f, g) refl
@@ -126,14 +126,14 @@ module _ (image tape answers : List ℕ) where
   by-fitting true f a = by-records a f (first tape (records tape) 0 (records tape) (omega arith) (λ j h. absurd (omega arith))) refl
   by-fitting false f a = subst (Given image tape (length answers)) (sym (by-tape image tape answers (deviceOf image) a ∙ rw f refl)) (tape-wrong a f)
 
-  by-image-tests : (l m r : Bool) → eqb (length image) 32 ≡ l → marked image ≡ m → lawful image ≡ r → Given image tape (length answers) (resultOf image tape answers)
+  by-image-tests : (l m r : Bool) → eqb (length image) imageBytes ≡ l → marked image ≡ m → lawful image ≡ r → Given image tape (length answers) (resultOf image tape answers)
   by-image-tests true true true e f g = by-fitting (fitting tape) refl (loads image true true true e f g)
   by-image-tests true true false e f g = subst (Given image tape (length answers)) (sym (by-image image tape answers ImageRule (loads image true true false e f g))) (rule-broken (eqb-true _ _ e) f g)
   by-image-tests true false r e f g = subst (Given image tape (length answers)) (sym (by-image image tape answers ImageMark (loads image true false r e f g))) (mark-wrong (eqb-true _ _ e) f)
   by-image-tests false m r e f g = subst (Given image tape (length answers)) (sym (by-image image tape answers ImageLength (loads image false m r e f g))) (length-wrong (eqb-false _ _ e))
 
   pub given : Given image tape (length answers) (resultOf image tape answers)
-  given = by-image-tests (eqb (length image) 32) (marked image) (lawful image) refl refl refl
+  given = by-image-tests (eqb (length image) imageBytes) (marked image) (lawful image) refl refl refl
 
   -- ---- and no other
   -- sound records are passed over
@@ -142,13 +142,13 @@ module _ (image tape answers : List ℕ) where
   skips zero i s = refl
   skips (suc k) i s = rw (s i (omega arith) .means) (skips k (i + 1) (λ j h. s j (omega arith)))
 
-  finds : (k i j : ℕ) (r : Refusal) → i ≤ j → j < i + k → SoundBefore tape j → decoded tape (j * 8) ≡ Invalid r → firstBad tape i k ≡ Bad r j
+  finds : (k i j : ℕ) (r : Refusal) → i ≤ j → j < i + k → SoundBefore tape j → decoded tape (j * recordBytes) ≡ Invalid r → firstBad tape i k ≡ Bad r j
   unfolding firstBad
   finds zero i j r h l s p = absurd (omega arith)
   finds (suc k) i j r h l s p = go (eqb i j) refl (finds k (i + 1) j r)
     where
-      go : (b : Bool) → eqb i j ≡ b → (i + 1 ≤ j → j < i + 1 + k → SoundBefore tape j → decoded tape (j * 8) ≡ Invalid r → firstBad tape (i + 1) k ≡ Bad r j)
-          → firstBad·at (decoded tape (i * 8)) i (firstBad tape (i + 1) k) ≡ Bad r j
+      go : (b : Bool) → eqb i j ≡ b → (i + 1 ≤ j → j < i + 1 + k → SoundBefore tape j → decoded tape (j * recordBytes) ≡ Invalid r → firstBad tape (i + 1) k ≡ Bad r j)
+          → firstBad·at (decoded tape (i * recordBytes)) i (firstBad tape (i + 1) k) ≡ Bad r j
       go true q ih = let e : i ≡ j = eqb-true i j q in rw e (rw p refl)
       go false q ih = let f : i ≡ j → ⊥ = eqb-false i j q in rw (s i (omega arith) .means) (ih (omega arith) (omega arith) s p)
 

@@ -20,9 +20,9 @@ use Rattle.device.specs.Events.{stepOf}
 use Rattle.image.specs.Image.{byte, imageOf, deviceOf}
 use Rattle.tape.specs.declared.Decoded.{Decoded}
 use Rattle.tape.specs.declared.Decoded.the-variants.{Valid, Invalid}
-use Rattle.tape.specs.Records.{eventOf, number, decoded, records, events·at, events, eventsOf}
+use Rattle.tape.specs.Records.{recordBytes, eventOf, number, decoded, records, events·at, events, eventsOf}
 use Rattle.tape.specs.Answers.{answerBytes, answerOf}
-use Rattle.tape.specs.Runs.{runOf, answersOf, fitting, resultOf, imageAfter, answersAfter}
+use Rattle.tape.specs.Runs.{tapeMost, runOf, answersOf, fitting, resultOf, imageAfter, answersAfter}
 use Rattle.tape.proofs.Checks.{Passed, passed}
 use Rattle.tape.proofs.Results.{by-tape}
 use Rattle.demands.specs.Clocks as C
@@ -41,38 +41,38 @@ past pre rest at =
     (λ k h. ap (λ (n : ℕ). byte (pre ++ rest) n) (add-assoc (length pre) at k) ∙ getD-append-add pre rest (at + k) 0)
 
 -- a record within the first part is the first part's
-within : (pre rest : List ℕ) (at : ℕ) → at + 8 ≤ length pre → decoded (pre ++ rest) at ≡ decoded pre at
+within : (pre rest : List ℕ) (at : ℕ) → at + recordBytes ≤ length pre → decoded (pre ++ rest) at ≡ decoded pre at
 within pre rest at h =
     agree (pre ++ rest) pre at at (List·getD-append pre rest 0 at (omega arith)) (λ k l. List·getD-append pre rest 0 (at + k) (omega arith))
 
-events-past : (pre rest : List ℕ) (p : ℕ) → length pre ≡ p * 8 → (k i : ℕ) → events (pre ++ rest) (p + i) k ≡ events rest i k
+events-past : (pre rest : List ℕ) (p : ℕ) → length pre ≡ p * recordBytes → (k i : ℕ) → events (pre ++ rest) (p + i) k ≡ events rest i k
 unfolding events
 events-past pre rest p h zero i = refl
 events-past pre rest p h (suc k) i =
     ap₂ events·at
-    (ap (decoded (pre ++ rest)) (omega arith) ∙ past pre rest (i * 8))
+    (ap (decoded (pre ++ rest)) (omega arith) ∙ past pre rest (i * recordBytes))
     (ap (λ (n : ℕ). events (pre ++ rest) n k) (omega arith) ∙ events-past pre rest p h k (i + 1))
 
-events-within : (pre rest : List ℕ) (k i : ℕ) → (i + k) * 8 ≤ length pre → events (pre ++ rest) i k ≡ events pre i k
+events-within : (pre rest : List ℕ) (k i : ℕ) → (i + k) * recordBytes ≤ length pre → events (pre ++ rest) i k ≡ events pre i k
 unfolding events
 events-within pre rest zero i h = refl
-events-within pre rest (suc k) i h = ap₂ events·at (within pre rest (i * 8) (omega arith)) (events-within pre rest k (i + 1) (omega arith))
+events-within pre rest (suc k) i h = ap₂ events·at (within pre rest (i * recordBytes) (omega arith)) (events-within pre rest k (i + 1) (omega arith))
 
 events-join : (t : List ℕ) (k m i : ℕ) → events t i (k + m) ≡ events t i k ++ events t (i + k) m
 unfolding events
 events-join t zero m i = ap₂ (events t) (sym (add-zero i)) (zero-add m)
-events-join t (suc k) m i = ap (events t i) (suc-add k m) ∙ go (decoded t (i * 8)) (events-join t k m (i + 1) ∙ ap (λ (n : ℕ). events t (i + 1) k ++ events t n m) (omega arith))
+events-join t (suc k) m i = ap (events t i) (suc-add k m) ∙ go (decoded t (i * recordBytes)) (events-join t k m (i + 1) ∙ ap (λ (n : ℕ). events t (i + 1) k ++ events t n m) (omega arith))
   where
     go : (d : Decoded) → events t (i + 1) (k + m) ≡ events t (i + 1) k ++ events t (i + suc k) m → events·at d (events t (i + 1) (k + m)) ≡ events·at d (events t (i + 1) k) ++ events t (i + suc k) m
     go (Valid e) p = ap (λ (es : List Event). e ∷ es) p
     go (Invalid r) p = p
 
 -- how many records a tape of k records has
-count : (t : List ℕ) (k : ℕ) → length t ≡ k * 8 → records t ≡ k
-count t k h = ap (λ (n : ℕ). n / 8) h ∙ mul-div-cancel k (lit< tt)
+count : (t : List ℕ) (k : ℕ) → length t ≡ k * recordBytes → records t ≡ k
+count t k h = ap (λ (n : ℕ). n / recordBytes) h ∙ mul-div-cancel k (lit< tt)
 
 -- the events of two tapes, one after the other
-pub append-events : (pre rest : List ℕ) (p q : ℕ) → length pre ≡ p * 8 → length rest ≡ q * 8 → eventsOf (pre ++ rest) ≡ eventsOf pre ++ eventsOf rest
+pub append-events : (pre rest : List ℕ) (p q : ℕ) → length pre ≡ p * recordBytes → length rest ≡ q * recordBytes → eventsOf (pre ++ rest) ≡ eventsOf pre ++ eventsOf rest
 append-events pre rest p q h l =
     ap (events (pre ++ rest) 0) (count (pre ++ rest) (p + q) (length-append pre rest ∙ omega arith))
     ∙ events-join (pre ++ rest) p q 0
@@ -97,7 +97,7 @@ unfolding events decoded eventOf
 clock-record n = ap (λ (k : ℕ). Clocks k ∷ []) (four-bytes n)
 
 -- ---- joined and cut
-module _ (image pre post : List ℕ) (p q m n : ℕ) (hp : length pre ≡ p * 8) (hq : length post ≡ q * 8) where
+module _ (image pre post : List ℕ) (p q m n : ℕ) (hp : length pre ≡ p * recordBytes) (hq : length post ≡ q * recordBytes) where
   -- the tape with two neighbouring clock records, and that with one of their sum
   abbrev pub cut : List ℕ
   cut = pre ++ (clockRecord m ++ (clockRecord n ++ post))
@@ -105,7 +105,7 @@ module _ (image pre post : List ℕ) (p q m n : ℕ) (hp : length pre ≡ p * 8)
   abbrev pub joined : List ℕ
   joined = pre ++ (clockRecord (m + n) ++ post)
 
-  one-record : (k : ℕ) (t : List ℕ) (r : ℕ) → length t ≡ r * 8 → eventsOf (clockRecord k ++ t) ≡ Clocks k ∷ eventsOf t
+  one-record : (k : ℕ) (t : List ℕ) (r : ℕ) → length t ≡ r * recordBytes → eventsOf (clockRecord k ++ t) ≡ Clocks k ∷ eventsOf t
   one-record k t r h = append-events (clockRecord k) t 1 r refl h ∙ ap (λ (es : List Event). es ++ eventsOf t) (clock-record k)
 
   cut-events : eventsOf cut ≡ eventsOf pre ++ Clocks m ∷ Clocks n ∷ eventsOf post
@@ -121,10 +121,10 @@ module _ (image pre post : List ℕ) (p q m n : ℕ) (hp : length pre ≡ p * 8)
     was : Passed cut (length answers)
     was = passed cut (length answers) (sym (by-tape image cut answers (deviceOf image) (accepted image cut answers ok)) ∙ ok)
 
-    long-cut : length cut ≡ (p + suc (suc q)) * 8
+    long-cut : length cut ≡ (p + suc (suc q)) * recordBytes
     long-cut = length-append pre (clockRecord m ++ (clockRecord n ++ post)) ∙ omega arith
 
-    long-joined : length joined ≡ (p + suc q) * 8
+    long-joined : length joined ≡ (p + suc q) * recordBytes
     long-joined = length-append pre (clockRecord (m + n) ++ post) ∙ omega arith
 
     sound-cut : SoundBefore cut (p + suc (suc q))
@@ -134,7 +134,7 @@ module _ (image pre post : List ℕ) (p q m n : ℕ) (hp : length pre ≡ p * 8)
     sound-before : (j : ℕ) → j < p → Sound joined j
     sound-before j h =
         let s = sound-cut j (omega arith) in
-        record { event = s .event; means = within pre (clockRecord (m + n) ++ post) (j * 8) (omega arith) ∙ sym (within pre (clockRecord m ++ (clockRecord n ++ post)) (j * 8) (omega arith)) ∙ s .means }
+        record { event = s .event; means = within pre (clockRecord (m + n) ++ post) (j * recordBytes) (omega arith) ∙ sym (within pre (clockRecord m ++ (clockRecord n ++ post)) (j * recordBytes) (omega arith)) ∙ s .means }
 
     sound-span : Sound joined p
     unfolding decoded eventOf
@@ -150,11 +150,11 @@ module _ (image pre post : List ℕ) (p q m n : ℕ) (hp : length pre ≡ p * 8)
           event = s .event;
           means =
               ap (decoded joined) (omega arith)
-              ∙ past pre (clockRecord (m + n) ++ post) (8 + i * 8)
-              ∙ past (clockRecord (m + n)) post (i * 8)
-              ∙ sym (past (clockRecord n) post (i * 8))
-              ∙ sym (past (clockRecord m) (clockRecord n ++ post) (8 + i * 8))
-              ∙ sym (past pre (clockRecord m ++ (clockRecord n ++ post)) (8 + (8 + i * 8)))
+              ∙ past pre (clockRecord (m + n) ++ post) (recordBytes + i * recordBytes)
+              ∙ past (clockRecord (m + n)) post (i * recordBytes)
+              ∙ sym (past (clockRecord n) post (i * recordBytes))
+              ∙ sym (past (clockRecord m) (clockRecord n ++ post) (recordBytes + i * recordBytes))
+              ∙ sym (past pre (clockRecord m ++ (clockRecord n ++ post)) (recordBytes + (recordBytes + i * recordBytes)))
               ∙ ap (decoded cut) (omega arith)
               ∙ s .means;
         }
@@ -174,7 +174,7 @@ module _ (image pre post : List ℕ) (p q m n : ℕ) (hp : length pre ≡ p * 8)
     unfolding fitting
     joined-accepted =
         sym (exactly image joined answers 0 (answered (accepted image cut answers ok)
-        (rw (eq-eqb (length joined % 8) 0 (ap (λ (k : ℕ). k % 8) long-joined ∙ omega arith), le-leb (length joined) 4096 (let l = was .short in omega (arith, long-joined, long-cut))) refl)
+        (rw (eq-eqb (length joined % recordBytes) 0 (ap (λ (k : ℕ). k % recordBytes) long-joined ∙ omega arith), le-leb (length joined) tapeMost (let l = was .short in omega (arith, long-joined, long-cut))) refl)
         (subst (SoundBefore joined) (sym (count joined (p + suc q) long-joined)) sound-joined)
         (let l = was .roomy in omega (arith, count joined (p + suc q) long-joined, count cut (p + suc (suc q)) long-cut))))
 

@@ -14,8 +14,9 @@ use Rattle.tape.specs.declared.Decoded.{Decoded}
 use Rattle.tape.specs.declared.Decoded.the-variants.{Valid, Invalid}
 use Rattle.tape.specs.declared.Checked.{Checked}
 use Rattle.tape.specs.declared.Checked.the-variants.{Fine, Bad}
-use Rattle.tape.specs.Records.{records, decoded, firstBad·at, firstBad}
-use Rattle.tape.specs.Runs.{fitting, code, afterRecords, tapeResult}
+use Rattle.tape.specs.Records.{recordBytes, records, decoded, firstBad·at, firstBad}
+use Rattle.tape.specs.Runs.{tapeMost, fitting, code, afterRecords, tapeResult}
+use Rattle.tape.specs.Answers.{answerBytes}
 
 -- a refusal's number is not 0
 pub code-above : (r : Refusal) (i : ℕ) → code r i ≡ 0 → ⊥
@@ -33,9 +34,9 @@ code-above AnswerLength i e = omega arith
 bad-below : (tape : List ℕ) (i k : ℕ) (r : Refusal) (j : ℕ) → firstBad tape i k ≡ Bad r j → j < i + k
 unfolding firstBad
 bad-below tape i zero r j e = let z : _≡_ {A = ℕ} 0 1 = cc in absurd (omega arith)
-bad-below tape i (suc k) r j e = go (decoded tape (i * 8)) refl e (bad-below tape (i + 1) k r j)
+bad-below tape i (suc k) r j e = go (decoded tape (i * recordBytes)) refl e (bad-below tape (i + 1) k r j)
   where
-    go : (d : Decoded) → decoded tape (i * 8) ≡ d → firstBad·at (decoded tape (i * 8)) i (firstBad tape (i + 1) k) ≡ Bad r j → (firstBad tape (i + 1) k ≡ Bad r j → j < i + 1 + k) → j < i + suc k
+    go : (d : Decoded) → decoded tape (i * recordBytes) ≡ d → firstBad·at (decoded tape (i * recordBytes)) i (firstBad tape (i + 1) k) ≡ Bad r j → (firstBad tape (i + 1) k ≡ Bad r j → j < i + 1 + k) → j < i + suc k
     go (Valid x) p q ih = let f : j < i + 1 + k = ih (rw p at q) in omega arith
     go (Invalid s) p q ih = let f : Bad s i ≡ Bad r j = rw p at q in let g : i ≡ j = cc in omega arith
 
@@ -44,20 +45,20 @@ index-below tape n r j e = omega (arith, bad-below tape 0 n r j e)
 
 module _ (tape : List ℕ) (room : ℕ) where
   -- ---- refusal 4
-  pub uneven : (length tape % 8 ≡ 0 → ⊥) → tapeResult tape room ≡ code TapeLength 0
+  pub uneven : (length tape % recordBytes ≡ 0 → ⊥) → tapeResult tape room ≡ code TapeLength 0
   unfolding tapeResult fitting
   uneven h = rw (ne-eqb _ _ h) refl
 
-  pub too-long : 4096 < length tape → tapeResult tape room ≡ code TapeLength 0
+  pub too-long : tapeMost < length tape → tapeResult tape room ≡ code TapeLength 0
   unfolding tapeResult fitting
-  too-long h = rw (lt-leb _ _ h) (ap (λ (b : Bool). cond b (afterRecords (firstBad tape 0 (records tape)) (records tape) room) (code TapeLength 0)) (never (eqb (length tape % 8) 0)))
+  too-long h = rw (lt-leb _ _ h) (ap (λ (b : Bool). cond b (afterRecords (firstBad tape 0 (records tape)) (records tape) room) (code TapeLength 0)) (never (eqb (length tape % recordBytes) 0)))
     where
       never : (b : Bool) → (b && false) ≡ false
       never true = refl
       never false = refl
 
   -- ---- a tape of accepted length
-  module _ (even : length tape % 8 ≡ 0) (short : length tape ≤ 4096) where
+  module _ (even : length tape % recordBytes ≡ 0) (short : length tape ≤ tapeMost) where
     by-records : tapeResult tape room ≡ afterRecords (firstBad tape 0 (records tape)) (records tape) room
     unfolding tapeResult fitting
     by-records = rw (eq-eqb _ _ even, le-leb _ _ short) refl
@@ -65,23 +66,23 @@ module _ (tape : List ℕ) (room : ℕ) where
     pub bad : (r : Refusal) (i : ℕ) → firstBad tape 0 (records tape) ≡ Bad r i → tapeResult tape room ≡ code r i
     bad r i e = by-records ∙ ap (λ (c : Checked). afterRecords c (records tape) room) e
 
-    by-room : firstBad tape 0 (records tape) ≡ Fine → tapeResult tape room ≡ cond (leb (22 * records tape) room) 0 (code AnswerLength 0)
+    by-room : firstBad tape 0 (records tape) ≡ Fine → tapeResult tape room ≡ cond (leb (answerBytes * records tape) room) 0 (code AnswerLength 0)
     by-room e = by-records ∙ ap (λ (c : Checked). afterRecords c (records tape) room) e
 
-    pub roomy : firstBad tape 0 (records tape) ≡ Fine → 22 * records tape ≤ room → tapeResult tape room ≡ 0
+    pub roomy : firstBad tape 0 (records tape) ≡ Fine → answerBytes * records tape ≤ room → tapeResult tape room ≡ 0
     roomy e h = by-room e ∙ rw (le-leb _ _ h) refl
 
-    pub cramped : firstBad tape 0 (records tape) ≡ Fine → room < 22 * records tape → tapeResult tape room ≡ code AnswerLength 0
+    pub cramped : firstBad tape 0 (records tape) ≡ Fine → room < answerBytes * records tape → tapeResult tape room ≡ code AnswerLength 0
     cramped e h = by-room e ∙ rw (lt-leb _ _ h) refl
 
   -- ---- what an accepted tape has shown
   pub record Passed : Type 0 where
-    pub even : length tape % 8 ≡ 0
-    pub short : length tape ≤ 4096
+    pub even : length tape % recordBytes ≡ 0
+    pub short : length tape ≤ tapeMost
     pub fine : firstBad tape 0 (records tape) ≡ Fine
-    pub roomy : 22 * records tape ≤ room
+    pub roomy : answerBytes * records tape ≤ room
 
-  by-tests : (a b : Bool) (c : Checked) (f : Bool) → eqb (length tape % 8) 0 ≡ a → leb (length tape) 4096 ≡ b → firstBad tape 0 (records tape) ≡ c → leb (22 * records tape) room ≡ f
+  by-tests : (a b : Bool) (c : Checked) (f : Bool) → eqb (length tape % recordBytes) 0 ≡ a → leb (length tape) tapeMost ≡ b → firstBad tape 0 (records tape) ≡ c → leb (answerBytes * records tape) room ≡ f
       → cond (a && b) (afterRecords c (records tape) room) (code TapeLength 0) ≡ 0 → Passed
   by-tests true true Fine true p q r s t = record { even = eqb-true _ _ p; short = leb-true _ _ q; fine = r; roomy = leb-true _ _ s }
   by-tests true true Fine false p q r s t = let z : code AnswerLength 0 ≡ 0 = sym (rw s refl) ∙ t in absurd (code-above AnswerLength 0 z)
@@ -91,4 +92,4 @@ module _ (tape : List ℕ) (room : ℕ) where
 
   pub passed : tapeResult tape room ≡ 0 → Passed
   unfolding tapeResult fitting
-  passed e = by-tests (eqb (length tape % 8) 0) (leb (length tape) 4096) (firstBad tape 0 (records tape)) (leb (22 * records tape) room) refl refl refl refl e
+  passed e = by-tests (eqb (length tape % recordBytes) 0) (leb (length tape) tapeMost) (firstBad tape 0 (records tape)) (leb (answerBytes * records tape) room) refl refl refl refl e

@@ -12,8 +12,8 @@ use Rattle.device.specs.declared.Stepped.{Stepped}
 use Rattle.device.specs.Events.{stepOf}
 use Rattle.tape.specs.declared.Decoded.the-variants.{Valid, Invalid}
 use Rattle.tape.specs.declared.Checked.the-variants.{Fine}
-use Rattle.tape.specs.Records.{decoded, firstBad, events}
-use Rattle.tape.specs.Answers.{answerOf}
+use Rattle.tape.specs.Records.{recordBytes, decoded, firstBad, events}
+use Rattle.tape.specs.Answers.{answerBytes, answerOf}
 use Rattle.tape.specs.Runs.{runOf, answersOf}
 use Rattle.tape.proofs.Tapes.{check-valid, event-valid, events-none}
 
@@ -24,8 +24,8 @@ module _ (d : Device) (tape ans₀ : List ℕ) (n : ℕ) where
     pub long : length ans ≡ length ans₀
     pub clear : firstBad tape i (n - i) ≡ Fine
     pub device : runOf at (events tape i (n - i)) ≡ runOf d (events tape 0 n)
-    pub front : take (i * 22) ans ++ answersOf at (events tape i (n - i)) ≡ answersOf d (events tape 0 n)
-    pub rest : drop (i * 22) ans ≡ drop (i * 22) ans₀
+    pub front : take (i * answerBytes) ans ++ answersOf at (events tape i (n - i)) ≡ answersOf d (events tape 0 n)
+    pub rest : drop (i * answerBytes) ans ≡ drop (i * answerBytes) ans₀
 
   from-zero : n - 0 ≡ n
   from-zero = omega arith
@@ -42,9 +42,9 @@ module _ (d : Device) (tape ans₀ : List ℕ) (n : ℕ) where
 
   -- the last record done
   pub going-ends : (ans : List ℕ) (at : Device) (i : ℕ) → Going ans at i → n ≤ i
-      → (at ≡ runOf d (events tape 0 n)) × (ans ≡ answersOf d (events tape 0 n) ++ drop (n * 22) ans₀)
+      → (at ≡ runOf d (events tape 0 n)) × (ans ≡ answersOf d (events tape 0 n) ++ drop (n * answerBytes) ans₀)
   unfolding runOf answersOf
-  going-ends ans at i g h = (sym (ap (runOf at) none) ∙ g .device, sym (take-append-drop (n * 22) ans) ∙ ap₂ (λ (x y : List ℕ). x ++ y) done left)
+  going-ends ans at i g h = (sym (ap (runOf at) none) ∙ g .device, sym (take-append-drop (n * answerBytes) ans) ∙ ap₂ (λ (x y : List ℕ). x ++ y) done left)
     where
       all : i ≡ n
       all = let w = g .within in omega arith
@@ -52,23 +52,23 @@ module _ (d : Device) (tape ans₀ : List ℕ) (n : ℕ) where
       none : events tape i (n - i) ≡ []
       none = let w = g .within in let z : n - i ≡ 0 = omega arith in ap (events tape i) z ∙ events-none tape i
 
-      done : take (n * 22) ans ≡ answersOf d (events tape 0 n)
-      done = ap (λ (k : ℕ). take (k * 22) ans) (sym all) ∙ sym (append-nil (take (i * 22) ans)) ∙ ap (λ (x : List ℕ). take (i * 22) ans ++ x) (sym (ap (answersOf at) none)) ∙ g .front
+      done : take (n * answerBytes) ans ≡ answersOf d (events tape 0 n)
+      done = ap (λ (k : ℕ). take (k * answerBytes) ans) (sym all) ∙ sym (append-nil (take (i * answerBytes) ans)) ∙ ap (λ (x : List ℕ). take (i * answerBytes) ans ++ x) (sym (ap (answersOf at) none)) ∙ g .front
 
-      left : drop (n * 22) ans ≡ drop (n * 22) ans₀
-      left = ap (λ (k : ℕ). drop (k * 22) ans) (sym all) ∙ g .rest ∙ ap (λ (k : ℕ). drop (k * 22) ans₀) all
+      left : drop (n * answerBytes) ans ≡ drop (n * answerBytes) ans₀
+      left = ap (λ (k : ℕ). drop (k * answerBytes) ans) (sym all) ∙ g .rest ∙ ap (λ (k : ℕ). drop (k * answerBytes) ans₀) all
 
   -- one record more
-  module _ (ans : List ℕ) (at : Device) (i : ℕ) (g : Going ans at i) (h : i < n) (e : Event) (p : decoded tape (i * 8) ≡ Valid e) (room : i * 22 + 22 ≤ length ans) where
+  module _ (ans : List ℕ) (at : Device) (i : ℕ) (g : Going ans at i) (h : i < n) (e : Event) (p : decoded tape (i * recordBytes) ≡ Valid e) (room : i * answerBytes + answerBytes ≤ length ans) where
     abbrev next : List ℕ
-    next = take (i * 22) ans ++ answerOf (stepOf at e) ++ drop (i * 22 + 22) ans
+    next = take (i * answerBytes) ans ++ answerOf (stepOf at e) ++ drop (i * answerBytes + answerBytes) ans
 
-    place : (i + 1) * 22 ≡ i * 22 + 22
+    place : (i + 1) * answerBytes ≡ i * answerBytes + answerBytes
     place = omega arith
 
-    head-long : length (take (i * 22) ans ++ answerOf (stepOf at e)) ≡ (i + 1) * 22
+    head-long : length (take (i * answerBytes) ans ++ answerOf (stepOf at e)) ≡ (i + 1) * answerBytes
     unfolding answerOf
-    head-long = length-append (take (i * 22) ans) (answerOf (stepOf at e)) ∙ ap (λ (k : ℕ). k + 22) (length-take-le (i * 22) ans (omega arith)) ∙ omega arith
+    head-long = length-append (take (i * answerBytes) ans) (answerOf (stepOf at e)) ∙ ap (λ (k : ℕ). k + answerBytes) (length-take-le (i * answerBytes) ans (omega arith)) ∙ omega arith
 
     events-here : events tape i (n - i) ≡ e ∷ events tape (i + 1) (n - (i + 1))
     events-here = event-valid tape i n h e p
@@ -78,20 +78,20 @@ module _ (d : Device) (tape ans₀ : List ℕ) (n : ℕ) where
     going-on = record {
       within = omega arith;
       long =
-          length-append (take (i * 22) ans ++ answerOf (stepOf at e)) (drop (i * 22 + 22) ans)
-          ∙ ap₂ (λ (x y : ℕ). x + y) head-long (length-drop (i * 22 + 22) ans)
+          length-append (take (i * answerBytes) ans ++ answerOf (stepOf at e)) (drop (i * answerBytes + answerBytes) ans)
+          ∙ ap₂ (λ (x y : ℕ). x + y) head-long (length-drop (i * answerBytes + answerBytes) ans)
           ∙ (let l = g .long in omega arith);
       clear = sym (check-valid tape i n h e p) ∙ g .clear;
       device = sym (ap (runOf at) events-here) ∙ g .device;
       front =
-          ap (λ (x : List ℕ). x ++ answersOf (stepOf at e .device) (events tape (i + 1) (n - (i + 1)))) (take-at (take (i * 22) ans ++ answerOf (stepOf at e)) (drop (i * 22 + 22) ans) ((i + 1) * 22) head-long)
-          ∙ append-assoc (take (i * 22) ans) (answerOf (stepOf at e)) (answersOf (stepOf at e .device) (events tape (i + 1) (n - (i + 1))))
-          ∙ ap (λ (x : List ℕ). take (i * 22) ans ++ x) (sym (ap (answersOf at) events-here))
+          ap (λ (x : List ℕ). x ++ answersOf (stepOf at e .device) (events tape (i + 1) (n - (i + 1)))) (take-at (take (i * answerBytes) ans ++ answerOf (stepOf at e)) (drop (i * answerBytes + answerBytes) ans) ((i + 1) * answerBytes) head-long)
+          ∙ append-assoc (take (i * answerBytes) ans) (answerOf (stepOf at e)) (answersOf (stepOf at e .device) (events tape (i + 1) (n - (i + 1))))
+          ∙ ap (λ (x : List ℕ). take (i * answerBytes) ans ++ x) (sym (ap (answersOf at) events-here))
           ∙ g .front;
       rest =
-          drop-at (take (i * 22) ans ++ answerOf (stepOf at e)) (drop (i * 22 + 22) ans) ((i + 1) * 22) head-long
-          ∙ sym (drop-drop 22 (i * 22) ans)
-          ∙ ap (drop 22) (g .rest)
-          ∙ drop-drop 22 (i * 22) ans₀
+          drop-at (take (i * answerBytes) ans ++ answerOf (stepOf at e)) (drop (i * answerBytes + answerBytes) ans) ((i + 1) * answerBytes) head-long
+          ∙ sym (drop-drop answerBytes (i * answerBytes) ans)
+          ∙ ap (drop answerBytes) (g .rest)
+          ∙ drop-drop answerBytes (i * answerBytes) ans₀
           ∙ ap (λ (k : ℕ). drop k ans₀) (sym place);
     }

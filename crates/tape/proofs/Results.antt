@@ -15,6 +15,7 @@ use Rattle.image.specs.Image.{imageOf, deviceOf, loadOf, storedOver}
 use Rattle.image.proofs.Loads.{Read, read}
 use Rattle.tape.specs.Records.{records, eventsOf}
 use Rattle.tape.specs.Runs.{runOf, answersOf, code, tapeResult, afterImage, resultOf, imageAfter, answersAfter}
+use Rattle.tape.specs.Answers.{answerBytes}
 
 module _ (image tape answers : List ℕ) where
   pub by-image : (r : Refusal) → loadOf image ≡ Refused r → resultOf image tape answers ≡ code r 0
@@ -37,13 +38,13 @@ module _ (image tape answers : List ℕ) where
   -- "Success writes the image and the first 22 × records answer bytes only."
   pub done : (d : Device) (image′ answers′ : List ℕ) → loadOf image ≡ Accepted d → tapeResult tape (length answers) ≡ 0
       → image′ ≡ storedOver (runOf d (eventsOf tape)) image
-      → answers′ ≡ answersOf d (eventsOf tape) ++ drop (records tape * 22) answers
+      → answers′ ≡ answersOf d (eventsOf tape) ++ drop (records tape * answerBytes) answers
       → (0 ≡ resultOf image tape answers) × (image′ ≡ imageAfter image tape answers) × (answers′ ≡ answersAfter image tape answers)
   unfolding imageAfter answersAfter storedOver
   done d image′ answers′ e z f g = (
     sym ok,
     f ∙ rw (eq-eqb _ _ ok, eq-eqb _ _ (shown .whole)) (ap (λ (x : Device). imageOf (runOf x (eventsOf tape))) (shown .is)),
-    g ∙ rw (eq-eqb _ _ ok) (ap₂ (λ (x : Device) (k : ℕ). answersOf x (eventsOf tape) ++ drop k answers) (shown .is) (mul-comm (records tape) 22)),
+    g ∙ rw (eq-eqb _ _ ok) (ap₂ (λ (x : Device) (k : ℕ). answersOf x (eventsOf tape) ++ drop k answers) (shown .is) (mul-comm (records tape) answerBytes)),
   )
     where
       shown : Read image d

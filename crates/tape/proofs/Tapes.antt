@@ -10,7 +10,7 @@ use Rattle.tape.specs.declared.Decoded.{Decoded}
 use Rattle.tape.specs.declared.Decoded.the-variants.{Valid, Invalid}
 use Rattle.tape.specs.declared.Checked.{Checked}
 use Rattle.tape.specs.declared.Checked.the-variants.{Fine, Bad}
-use Rattle.tape.specs.Records.{decoded, firstBad·at, firstBad, events·at, events}
+use Rattle.tape.specs.Records.{recordBytes, decoded, firstBad·at, firstBad, events·at, events}
 use Rattle.tape.proofs.Verdicts.{Holds}
 
 module _ (tape : List ℕ) (i n : ℕ) (h : i < n) where
@@ -18,26 +18,26 @@ module _ (tape : List ℕ) (i n : ℕ) (h : i < n) where
   more = omega arith
 
   -- the check at the i-th of n records
-  check-at : firstBad tape i (n - i) ≡ firstBad·at (decoded tape (i * 8)) i (firstBad tape (i + 1) (n - (i + 1)))
+  check-at : firstBad tape i (n - i) ≡ firstBad·at (decoded tape (i * recordBytes)) i (firstBad tape (i + 1) (n - (i + 1)))
   unfolding firstBad
   check-at = ap (firstBad tape i) more
 
-  pub check-bad : (r : Refusal) → decoded tape (i * 8) ≡ Invalid r → firstBad tape i (n - i) ≡ Bad r i
+  pub check-bad : (r : Refusal) → decoded tape (i * recordBytes) ≡ Invalid r → firstBad tape i (n - i) ≡ Bad r i
   check-bad r e = check-at ∙ ap (λ (d : Decoded). firstBad·at d i (firstBad tape (i + 1) (n - (i + 1)))) e
 
-  pub check-valid : (e : Event) → decoded tape (i * 8) ≡ Valid e → firstBad tape i (n - i) ≡ firstBad tape (i + 1) (n - (i + 1))
+  pub check-valid : (e : Event) → decoded tape (i * recordBytes) ≡ Valid e → firstBad tape i (n - i) ≡ firstBad tape (i + 1) (n - (i + 1))
   check-valid e p = check-at ∙ ap (λ (d : Decoded). firstBad·at d i (firstBad tape (i + 1) (n - (i + 1)))) p
 
   -- a record that the check lets pass has an event
-  pub check-fine : firstBad tape i (n - i) ≡ Fine → Holds (decoded tape (i * 8))
-  check-fine f = go (decoded tape (i * 8)) refl
+  pub check-fine : firstBad tape i (n - i) ≡ Fine → Holds (decoded tape (i * recordBytes))
+  check-fine f = go (decoded tape (i * recordBytes)) refl
     where
-      go : (d : Decoded) → decoded tape (i * 8) ≡ d → Holds (decoded tape (i * 8))
+      go : (d : Decoded) → decoded tape (i * recordBytes) ≡ d → Holds (decoded tape (i * recordBytes))
       go (Valid x) p = record { event = x; is = p }
       go (Invalid r) p = let b : Bad r i ≡ Fine = sym (check-bad r p) ∙ f in let z : _≡_ {A = ℕ} 0 1 = cc in absurd (omega arith)
 
   -- the event of the i-th record
-  pub event-valid : (e : Event) → decoded tape (i * 8) ≡ Valid e → events tape i (n - i) ≡ e ∷ events tape (i + 1) (n - (i + 1))
+  pub event-valid : (e : Event) → decoded tape (i * recordBytes) ≡ Valid e → events tape i (n - i) ≡ e ∷ events tape (i + 1) (n - (i + 1))
   unfolding events
   event-valid e p = ap (events tape i) more ∙ ap (λ (d : Decoded). events·at d (events tape (i + 1) (n - (i + 1)))) p
 

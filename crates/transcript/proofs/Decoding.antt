@@ -17,7 +17,7 @@ use Rattle.tape.specs.declared.Selected.{Selected}
 use Rattle.tape.specs.declared.Selected.the-variants.{Known, SerialPort}
 use Rattle.tape.specs.declared.Decoded.{Decoded}
 use Rattle.tape.specs.declared.Decoded.the-variants.{Valid, Invalid}
-use Rattle.tape.specs.Records.{registerOf, reading, writing, inputOf, eventOf, number, mark0, mark1, decoded, records, recordAt}
+use Rattle.tape.specs.Records.{recordBytes, registerOf, reading, writing, inputOf, eventOf, number, mark0, mark1, decoded, records, recordAt}
 use Rattle.demands.specs.Rule.{Bytes}
 
 -- what the check of a record shows of its event
@@ -91,6 +91,6 @@ sound tape at =
     n : ℕ
     n = number (byte tape (at + 4)) (byte tape (at + 5)) (byte tape (at + 6)) (byte tape (at + 7))
 
-pub record-in : (tape : List ℕ) (i : ℕ) → i < records tape → recordAt tape i ≡ decoded tape (i * 8)
+pub record-in : (tape : List ℕ) (i : ℕ) → i < records tape → recordAt tape i ≡ decoded tape (i * recordBytes)
 unfolding recordAt
 record-in tape i h = rw (lt-leb _ _ h)

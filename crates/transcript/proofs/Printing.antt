@@ -15,7 +15,7 @@ use Rattle.device.specs.Events.{freshDevice, stepOf, imageRule}
 use Rattle.demands.specs.Rule.{every-event-keeps-the-rule}
 use Rattle.tape.specs.declared.Decoded.the-variants.{Valid}
 use Rattle.tape.specs.declared.Checked.the-variants.{Fine}
-use Rattle.tape.specs.Records.{decoded, firstBad, events}
+use Rattle.tape.specs.Records.{recordBytes, decoded, firstBad, events}
 use Rattle.tape.proofs.Tapes.{check-valid, event-valid, events-none}
 use Rattle.transcript.specs.Transcript.{stepLine, linesOf}
 use Rattle.transcript.proofs.Decoding.{sound}
@@ -76,7 +76,7 @@ module _ (tape out₀ : List ℕ) (n : ℕ) where
     text-put = sym (take-append-drop at out) ∙ ap₂ (λ (x y : List ℕ). x ++ y) text-is (g .rest)
 
   -- one record more
-  module _ (out : List ℕ) (d : Device) (at i : ℕ) (g : Going out d at i) (h : i < n) (few : n ≤ 512) (fits : 32768 ≤ length out₀) (e : Event) (p : decoded tape (i * 8) ≡ Valid e) where
+  module _ (out : List ℕ) (d : Device) (at i : ℕ) (g : Going out d at i) (h : i < n) (few : n ≤ 512) (fits : 32768 ≤ length out₀) (e : Event) (p : decoded tape (i * recordBytes) ≡ Valid e) where
     abbrev line : List ℕ
     line = stepLine i (stepOf d e)
 
@@ -97,7 +97,7 @@ module _ (tape out₀ : List ℕ) (n : ℕ) where
       pub going-on : Going after (stepOf d e .device) r (i + 1)
       going-on = record {
         within = omega arith;
-        rule = every-event-keeps-the-rule d e (sound tape (i * 8) e p .bytes) (g .rule);
+        rule = every-event-keeps-the-rule d e (sound tape (i * recordBytes) e p .bytes) (g .rule);
         long =
             ap length put
             ∙ length-append (take at out ++ line) (drop r out)

@@ -11,8 +11,8 @@ use Rattle.device.specs.declared.Event.{Event}
 use Rattle.device.specs.declared.Stepped.{Stepped}
 use Rattle.device.specs.Events.{stepOf}
 use Rattle.tape.specs.declared.Decoded.the-variants.{Valid}
-use Rattle.tape.specs.Records.{decoded}
-use Rattle.tape.specs.Answers.{answerOf}
+use Rattle.tape.specs.Records.{recordBytes, decoded}
+use Rattle.tape.specs.Answers.{answerBytes, answerOf}
 use Rattle.tape.proofs.Going.{Going, going-begins, going-on, going-ends}
 use Rattle.tape.proofs.Tapes.{check-fine}
 use Rattle.tape.proofs.Verdicts.{Holds}
@@ -27,12 +27,12 @@ abbrev μ-loop : tie.MeasureT-loop
 
 module _ (d : Device) (tape ans₀ : List ℕ) (n : ℕ) (ans : List ℕ) (at : Device) (i : ℕ) (g : Going d tape ans₀ n ans at i) (h : i < n) where
   -- the answer of record i lies within the buffer
-  fits : n * 22 ≤ length ans₀ → i * 22 + 22 ≤ length ans
+  fits : n * answerBytes ≤ length ans₀ → i * answerBytes + answerBytes ≤ length ans
   fits r = let l = g .long in omega arith
 
   -- the step of the record's event, answered where it belongs
-  turned : (x : Event) → ((e : Event) → decoded tape (i * 8) ≡ Valid e → x ≡ e) → i * 22 + 22 ≤ length ans → (s : Stepped) (out : List ℕ) → s ≡ stepOf at x
-      → out ≡ take (i * 22) ans ++ answerOf s ++ drop (i * 22 + 22) ans → Going d tape ans₀ n out (s .device) (i + 1)
+  turned : (x : Event) → ((e : Event) → decoded tape (i * recordBytes) ≡ Valid e → x ≡ e) → i * answerBytes + answerBytes ≤ length ans → (s : Stepped) (out : List ℕ) → s ≡ stepOf at x
+      → out ≡ take (i * answerBytes) ans ++ answerOf s ++ drop (i * answerBytes + answerBytes) ans → Going d tape ans₀ n out (s .device) (i + 1)
   turned x w r s out q f =
       let k = check-fine tape i n h (g .clear) in
       rw (f, q ∙ ap (stepOf at) (w (k .event) (k .is))) (going-on d tape ans₀ n ans at i g h (k .event) (k .is) r)

@@ -14,7 +14,7 @@ use Rattle.device.specs.declared.Stepped.{Stepped}
 use Rattle.device.specs.Events.{freshDevice, stepOf, inRange}
 use Rattle.tape.specs.declared.Decoded.the-variants.{Valid, Invalid}
 use Rattle.tape.specs.declared.Checked.the-variants.{Fine, Bad}
-use Rattle.tape.specs.Records.{records, recordAt, decoded, eventsOf}
+use Rattle.tape.specs.Records.{recordBytes, records, recordAt, decoded, eventsOf}
 use Rattle.tape.proofs.Tapes.{check-bad}
 use Rattle.transcript.specs.Transcript.{stepLine, linesOf}
 use Rattle.transcript.proofs.Decoding.{sound, record-in}
@@ -48,11 +48,11 @@ module _ (tape out₀ : List ℕ) (short : length tape ≤ 4096) (fits : 32768 �
         let z : _≡_ {A = ℕ} 0 1 = cc in absurd (omega arith)
 
     module _ (e : Event) (p : recordAt tape i ≡ Valid e) where
-      here : decoded tape (i * 8) ≡ Valid e
+      here : decoded tape (i * recordBytes) ≡ Valid e
       here = sym (record-in tape i h) ∙ p
 
       in-range : inRange e ≡ true
-      in-range = sound tape (i * 8) e here .range
+      in-range = sound tape (i * recordBytes) e here .range
 
       turned : (s : Stepped) → s ≡ stepOf d e → (r : ℕ) (after : List ℕ) → r ≡ at + length (stepLine i s) → r ≤ at + 64 → after ≡ (take at out ++ stepLine i s) ++ drop r out
           → Going tape out₀ (records tape) after (s .device) r (i + 1)

@@ -19,7 +19,7 @@ use Rattle.tape.specs.declared.Selected.{Selected}
 use Rattle.tape.specs.declared.Selected.the-variants.{Known, SerialPort}
 use Rattle.tape.specs.declared.Decoded.{Decoded}
 use Rattle.tape.specs.declared.Decoded.the-variants.{Valid, Invalid}
-use Rattle.tape.specs.Records.{recordBytes, mark0, mark1, registerOf, reading, writing, inputOf, inRange, eventOf, number, decoded, records, events·at, events, eventsOf}
+use Rattle.tape.specs.Records.{recordBytes, mark0, mark1, registerOf, reading, writing, inputOf, ifInRange, eventOf, number, decoded, records, events·at, events, eventsOf}
 use Rattle.tape.specs.Runs.{runOf, resultOf, imageAfter}
 use Rattle.demands.specs.Rule.{Bytes, every-event-keeps-the-rule}
 use Rattle.demands.specs.Images.{load-of-save}
@@ -30,7 +30,7 @@ abbrev Good : Decoded → Type 0
 Good (Valid e) = Bytes e
 Good (Invalid r) = Unit {0}
 
-ranged : (t : Bool) (d : Decoded) → (t ≡ true → Good d) → Good (inRange t d)
+ranged : (t : Bool) (d : Decoded) → (t ≡ true → Good d) → Good (ifInRange t d)
 ranged true d g = g refl
 ranged false d g = tt
 

@@ -64,10 +64,10 @@ abbrev pub done : Device → Stepped
 done d = record { device = d; answer = Done; timeouts = none }
 
 -- what an acknowledge gives, as an answer
-abbrev pub answerOf : Reply → Answer
-answerOf (GivenVector v) = Vector v
-answerOf GivenOn = PassedOn
-answerOf GivenHeld = Held
+abbrev pub replied : Reply → Answer
+replied (GivenVector v) = Vector v
+replied GivenOn = PassedOn
+replied GivenHeld = Held
 
 -- "Kinds: 0 reset; 1 read rs a; 2 write rs a [..]; 3 line a (0–7) to level n (0, 1); 4 input a (0 TAI, 1 TBI) to level n; 5 n clocks, any n; 6 acknowledge [..]; 7 raise channel a (9–12)."
 unfoldable pub stepOf : Device → Event → Stepped
@@ -77,7 +77,7 @@ stepOf d (Write r v) = record { device = writeOf r v d; answer = Done; timeouts 
 stepOf d (Level i high) = record { device = signalled (withLevel i high (d .lines)) d; answer = Done; timeouts = signalTimeouts (withLevel i high (d .lines)) d }
 stepOf d (Input i high) = record { device = signalled (withInput i high (d .lines)) d; answer = Done; timeouts = signalTimeouts (withInput i high (d .lines)) d }
 stepOf d (Clocks n) = record { device = clocksDevice n d; answer = Done; timeouts = timeoutsDevice n d }
-stepOf d (Acknowledge iei) = record { device = withInterrupts (acknowledged iei (d .interrupts) .interrupts) d; answer = answerOf (acknowledged iei (d .interrupts) .reply); timeouts = none }
+stepOf d (Acknowledge iei) = record { device = withInterrupts (acknowledged iei (d .interrupts) .interrupts) d; answer = replied (acknowledged iei (d .interrupts) .reply); timeouts = none }
 stepOf d (Raise c) = done (withInterrupts (raised (setOf c) (d .interrupts)) d)
 
 -- ---- for private functions: what an event comes to that is begun up to its signals, or whole

@@ -17,7 +17,7 @@ ghost use Rattle.device.specs.declared.Register.the-variants.{Tcdcr};
 ghost use Rattle.device.specs.Signals.{active, becomes, ceases, taiActive, tbiActive, onlyIf, channelsOf, timeoutChannels, lineRaises, pulseEnds, countsA, countsB, heard, signalled, signalTimeouts, withLevel, withInput, withAer};
 ghost use Rattle.device.specs.Clocks.{none};
 ghost use Rattle.device.specs.Registers.{readOf, writeOf, withLines, withInterrupts, withA, withB, withC, withD};
-ghost use Rattle.device.specs.Events.{resetDevice, freshDevice, irqOf, bit, outputsOf, done, stepOf, finished, answerOf, classOf, valueOf, imageRule, numberOf, inRange, handledOf};
+ghost use Rattle.device.specs.Events.{resetDevice, freshDevice, irqOf, bit, outputsOf, done, stepOf, finished, replied, classOf, valueOf, imageRule, numberOf, inRange, handledOf};
 
 pub struct Lines {
     pub gpdr: u8,
@@ -674,7 +674,7 @@ impl Device {
         let reply = k.reply;
         Stepped {
             device: self.with_interrupts(j),
-            answer: answer_of(reply),
+            answer: replied(reply),
             timeouts: Timeouts::zero(),
         }
     }
@@ -793,8 +793,8 @@ impl Device {
     }
 }
 
-fn answer_of(r: Reply) -> Answer
-    ensures { λ a. ⌜ a ≡ answerOf r ⌝ }
+fn replied(r: Reply) -> Answer
+    ensures { λ a. ⌜ a ≡ replied r ⌝ }
 {
     match r {
         Reply::Vector(v) => Answer::Vector(v),

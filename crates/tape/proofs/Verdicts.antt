@@ -15,7 +15,7 @@ use Rattle.tape.specs.declared.Decoded.{Decoded}
 use Rattle.tape.specs.declared.Decoded.the-variants.{Valid, Invalid}
 use Rattle.tape.specs.declared.Verdict.{Verdict}
 use Rattle.tape.specs.declared.Verdict.the-variants.{Sound, Wrong}
-use Rattle.tape.specs.Records.{mark0, mark1, reading, writing, inRange, eventOf, number, decoded, verdictOf}
+use Rattle.tape.specs.Records.{mark0, mark1, reading, writing, ifInRange, eventOf, number, decoded, verdictOf}
 
 -- ---- from a verdict back to what the record means
 -- the event of a record that has one
@@ -35,7 +35,7 @@ wrong (Valid x) r p = apart (sym p)
 wrong (Invalid s) r p = cc
 
 -- ---- how a verdict is made: the range first, then the select
-pub ranged : (t : Bool) (d : Decoded) {t′ : Bool} {v : Verdict} → t′ ≡ t → v ≡ verdictOf d → cond t′ v (Wrong Operand) ≡ verdictOf (inRange t d)
+pub ranged : (t : Bool) (d : Decoded) {t′ : Bool} {v : Verdict} → t′ ≡ t → v ≡ verdictOf d → cond t′ v (Wrong Operand) ≡ verdictOf (ifInRange t d)
 ranged true d p q = rw p q
 ranged false d p q = rw p refl
 

@@ -74,20 +74,20 @@ abbrev pub inputOf : ℕ → TimerInput
 inputOf a = cond (eqb a 0) Tai Tbi
 
 -- "7: operand out of range": the event, if its operands are in range
-abbrev pub inRange : Bool → Decoded → Decoded
-inRange t e = cond t e (Invalid Operand)
+abbrev pub ifInRange : Bool → Decoded → Decoded
+ifInRange t e = cond t e (Invalid Operand)
 
 -- "Kinds: 0 reset; 1 read rs a; 2 write rs a, n at most 255; 3 line a (0–7) to level n (0, 1); 4 input a (0 TAI, 1 TBI) to level n; 5 n clocks, any n; 6 acknowledge, a is 1 if IEI is asserted, else 0; 7 raise channel a (9–12). An operand not named is 0." "6: kind above 7"
 abbrev pub kinds : ℕ → ℕ → List Decoded
 kinds a n =
-    inRange (eqb a 0 && eqb n 0) (Valid Reset)
-    ∷ inRange (leb a 23 && eqb n 0) (reading (registerOf a))
-    ∷ inRange (leb a 23 && leb n 255) (writing (registerOf a) n)
-    ∷ inRange (leb a 7 && leb n 1) (Valid (Level (line a) (eqb n 1)))
-    ∷ inRange (leb a 1 && leb n 1) (Valid (Input (inputOf a) (eqb n 1)))
-    ∷ inRange (eqb a 0) (Valid (Clocks n))
-    ∷ inRange (leb a 1 && eqb n 0) (Valid (Acknowledge (eqb a 1)))
-    ∷ inRange (leb 9 a && leb a 12 && eqb n 0) (Valid (Raise (channel a)))
+    ifInRange (eqb a 0 && eqb n 0) (Valid Reset)
+    ∷ ifInRange (leb a 23 && eqb n 0) (reading (registerOf a))
+    ∷ ifInRange (leb a 23 && leb n 255) (writing (registerOf a) n)
+    ∷ ifInRange (leb a 7 && leb n 1) (Valid (Level (line a) (eqb n 1)))
+    ∷ ifInRange (leb a 1 && leb n 1) (Valid (Input (inputOf a) (eqb n 1)))
+    ∷ ifInRange (eqb a 0) (Valid (Clocks n))
+    ∷ ifInRange (leb a 1 && eqb n 0) (Valid (Acknowledge (eqb a 1)))
+    ∷ ifInRange (leb 9 a && leb a 12 && eqb n 0) (Valid (Raise (channel a)))
     ∷ []
 
 unfoldable pub eventOf : ℕ → ℕ → ℕ → Decoded

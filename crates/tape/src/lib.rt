@@ -115,7 +115,7 @@ fn input_of(a: u8) -> TimerInput
 }
 
 // A number from its four bytes, high byte first.
-fn number_of(p: u8, q: u8, r: u8, s: u8) -> u32
+fn number_from(p: u8, q: u8, r: u8, s: u8) -> u32
     ensures { λ v. ⌜ v ≡ number p q r s ⌝ }
 {
     p as u32 * 16777216 + q as u32 * 65536 + r as u32 * 256 + s as u32
@@ -128,7 +128,7 @@ fn event_at(tape: &[u8], at: usize) -> Event
     ensures { λ r. ⌜ ((e : EventT) → decoded (now (tape .entry)) at ≡ Decoded.Valid e → r ≡ e) ⌝ }
 {
     let a = tape[at + 3];
-    let n = number_of(tape[at + 4], tape[at + 5], tape[at + 6], tape[at + 7]);
+    let n = number_from(tape[at + 4], tape[at + 5], tape[at + 6], tape[at + 7]);
     match tape[at + 2] {
         0 => Event::Reset,
         1 => Event::Read(known(a)),
@@ -201,7 +201,7 @@ fn verdict_at(tape: &[u8], at: usize) -> Verdict
     if tape[at + 1] != RECORD_MARK_1 {
         return Verdict::Wrong(Refusal::RecordMark);
     }
-    let n = number_of(tape[at + 4], tape[at + 5], tape[at + 6], tape[at + 7]);
+    let n = number_from(tape[at + 4], tape[at + 5], tape[at + 6], tape[at + 7]);
     verdict_of(tape[at + 2], tape[at + 3], n)
 }
 

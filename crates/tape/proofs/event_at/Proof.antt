@@ -16,32 +16,32 @@ add-a c = search needs
 shared-slice-read-a : tie.Need-shared-slice-read-a
 shared-slice-read-a c = search needs
 
-add-number-of : tie.Need-add-number-of
-add-number-of c = search needs
+add-number-from : tie.Need-add-number-from
+add-number-from c = search needs
 
-shared-slice-read-number-of : tie.Need-shared-slice-read-number-of
-shared-slice-read-number-of c = search needs
+shared-slice-read-number-from : tie.Need-shared-slice-read-number-from
+shared-slice-read-number-from c = search needs
 
-add-number-of-2 : tie.Need-add-number-of-2
-add-number-of-2 c = search needs
+add-number-from-2 : tie.Need-add-number-from-2
+add-number-from-2 c = search needs
 
-shared-slice-read-number-of-2 : tie.Need-shared-slice-read-number-of-2
-shared-slice-read-number-of-2 c = search needs
+shared-slice-read-number-from-2 : tie.Need-shared-slice-read-number-from-2
+shared-slice-read-number-from-2 c = search needs
 
-add-number-of-3 : tie.Need-add-number-of-3
-add-number-of-3 c = search needs
+add-number-from-3 : tie.Need-add-number-from-3
+add-number-from-3 c = search needs
 
-shared-slice-read-number-of-3 : tie.Need-shared-slice-read-number-of-3
-shared-slice-read-number-of-3 c = search needs
+shared-slice-read-number-from-3 : tie.Need-shared-slice-read-number-from-3
+shared-slice-read-number-from-3 c = search needs
 
-add-number-of-4 : tie.Need-add-number-of-4
-add-number-of-4 c = search needs
+add-number-from-4 : tie.Need-add-number-from-4
+add-number-from-4 c = search needs
 
-shared-slice-read-number-of-4 : tie.Need-shared-slice-read-number-of-4
-shared-slice-read-number-of-4 c = search needs
+shared-slice-read-number-from-4 : tie.Need-shared-slice-read-number-from-4
+shared-slice-read-number-from-4 c = search needs
 
-number-of-requires : tie.Need-number-of-requires
-number-of-requires c κs = search needs
+number-from-requires : tie.Need-number-from-requires
+number-from-requires c κs = search needs
 
 add-match : tie.Need-add-match
 add-match c = search needs
@@ -64,43 +64,43 @@ input-of-requires c κs = search needs
 returns : tie.Need-returns
 returns c e p =
     let a = c .before .before .before .before .before .before .before .before .before .args in
-    is-reset _ _ e (meant (a .tape .now) (a .at) e (c .match .keys1) (c .before .before .number-of .ensures) p)
+    is-reset _ _ e (meant (a .tape .now) (a .at) e (c .match .keys1) (c .before .before .number-from .ensures) p)
 
 returns-2 : tie.Need-returns-2
 returns-2 c e p =
     let a = c .before .before .before .before .before .before .before .before .before .before .args in
-    is-read _ _ e (c .known .result) (c .known .ensures) (meant (a .tape .now) (a .at) e (c .before .match .keys2) (c .before .before .before .number-of .ensures) p)
+    is-read _ _ e (c .known .result) (c .known .ensures) (meant (a .tape .now) (a .at) e (c .before .match .keys2) (c .before .before .before .number-from .ensures) p)
 
 returns-3 : tie.Need-returns-3
 returns-3 c e p =
     let a = c .before .before .before .before .before .before .before .before .before .before .args in
-    is-write _ _ e (c .known2 .result) (c .known2 .ensures) (meant (a .tape .now) (a .at) e (c .before .match .keys3) (c .before .before .before .number-of .ensures) p)
+    is-write _ _ e (c .known2 .result) (c .known2 .ensures) (meant (a .tape .now) (a .at) e (c .before .match .keys3) (c .before .before .before .number-from .ensures) p)
 
 returns-4 : tie.Need-returns-4
 returns-4 c e p =
     let a = c .before .before .before .before .before .before .before .before .before .args in
-    is-level _ _ e (meant (a .tape .now) (a .at) e (c .match .keys4) (c .before .before .number-of .ensures) p)
+    is-level _ _ e (meant (a .tape .now) (a .at) e (c .match .keys4) (c .before .before .number-from .ensures) p)
 
 returns-5 : tie.Need-returns-5
 returns-5 c e p =
     let a = c .before .before .before .before .before .before .before .before .before .before .args in
-    ap (λ i. Input i (eqb (c .before .before .before .number-of .result) 1)) (c .input-of .ensures) ∙ is-input _ _ e (meant (a .tape .now) (a .at) e (c .before .match .keys5) (c .before .before .before .number-of .ensures) p)
+    ap (λ i. Input i (eqb (c .before .before .before .number-from .result) 1)) (c .input-of .ensures) ∙ is-input _ _ e (meant (a .tape .now) (a .at) e (c .before .match .keys5) (c .before .before .before .number-from .ensures) p)
 
 returns-6 : tie.Need-returns-6
 returns-6 c e p =
     let a = c .before .before .before .before .before .before .before .before .before .args in
-    is-clocks _ _ e (meant (a .tape .now) (a .at) e (c .match .keys6) (c .before .before .number-of .ensures) p)
+    is-clocks _ _ e (meant (a .tape .now) (a .at) e (c .match .keys6) (c .before .before .number-from .ensures) p)
 
 returns-7 : tie.Need-returns-7
 returns-7 c e p =
     let a = c .before .before .before .before .before .before .before .before .before .args in
-    is-acknowledge _ _ e (meant (a .tape .now) (a .at) e (c .match .keys7) (c .before .before .number-of .ensures) p)
+    is-acknowledge _ _ e (meant (a .tape .now) (a .at) e (c .match .keys7) (c .before .before .number-from .ensures) p)
 
 returns-8 : tie.Need-returns-8
 returns-8 c e p =
     let a = c .before .before .before .before .before .before .before .before .before .args in
     let r = c .match .rest in
-    is-raise _ _ e _ (past (past (past (past (past (past (past (zero-le) (r .0 .0 .0 .0 .0 .0 .1)) (r .0 .0 .0 .0 .0 .1)) (r .0 .0 .0 .0 .1)) (r .0 .0 .0 .1)) (r .0 .0 .1)) (r .0 .1)) (r .1)) (meant (a .tape .now) (a .at) e (refl) (c .before .before .number-of .ensures) p)
+    is-raise _ _ e _ (past (past (past (past (past (past (past (zero-le) (r .0 .0 .0 .0 .0 .0 .1)) (r .0 .0 .0 .0 .0 .1)) (r .0 .0 .0 .0 .1)) (r .0 .0 .0 .1)) (r .0 .0 .1)) (r .0 .1)) (r .1)) (meant (a .tape .now) (a .at) e (refl) (c .before .before .number-from .ensures) p)
 
 pub event-at-spec : {M : Type 1} → statement M
 event-at-spec =
@@ -108,15 +108,15 @@ event-at-spec =
     (tie.spec
     add-a
     shared-slice-read-a
-    add-number-of
-    shared-slice-read-number-of
-    add-number-of-2
-    shared-slice-read-number-of-2
-    add-number-of-3
-    shared-slice-read-number-of-3
-    add-number-of-4
-    shared-slice-read-number-of-4
-    number-of-requires
+    add-number-from
+    shared-slice-read-number-from
+    add-number-from-2
+    shared-slice-read-number-from-2
+    add-number-from-3
+    shared-slice-read-number-from-3
+    add-number-from-4
+    shared-slice-read-number-from-4
+    number-from-requires
     add-match
     shared-slice-read-match
     known-requires

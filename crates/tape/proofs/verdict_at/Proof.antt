@@ -23,32 +23,32 @@ returns-2 : tie.Need-returns-2
 unfolding decoded
 returns-2 c = rw (eq-eqb _ _ (c .before .before .if1 .left), ne-eqb _ _ (c .if2 .taken)) refl
 
-add-number-of : tie.Need-add-number-of
-add-number-of c = search needs
+add-number-from : tie.Need-add-number-from
+add-number-from c = search needs
 
-shared-slice-read-number-of : tie.Need-shared-slice-read-number-of
-shared-slice-read-number-of c = search needs
+shared-slice-read-number-from : tie.Need-shared-slice-read-number-from
+shared-slice-read-number-from c = search needs
 
-add-number-of-2 : tie.Need-add-number-of-2
-add-number-of-2 c = search needs
+add-number-from-2 : tie.Need-add-number-from-2
+add-number-from-2 c = search needs
 
-shared-slice-read-number-of-2 : tie.Need-shared-slice-read-number-of-2
-shared-slice-read-number-of-2 c = search needs
+shared-slice-read-number-from-2 : tie.Need-shared-slice-read-number-from-2
+shared-slice-read-number-from-2 c = search needs
 
-add-number-of-3 : tie.Need-add-number-of-3
-add-number-of-3 c = search needs
+add-number-from-3 : tie.Need-add-number-from-3
+add-number-from-3 c = search needs
 
-shared-slice-read-number-of-3 : tie.Need-shared-slice-read-number-of-3
-shared-slice-read-number-of-3 c = search needs
+shared-slice-read-number-from-3 : tie.Need-shared-slice-read-number-from-3
+shared-slice-read-number-from-3 c = search needs
 
-add-number-of-4 : tie.Need-add-number-of-4
-add-number-of-4 c = search needs
+add-number-from-4 : tie.Need-add-number-from-4
+add-number-from-4 c = search needs
 
-shared-slice-read-number-of-4 : tie.Need-shared-slice-read-number-of-4
-shared-slice-read-number-of-4 c = search needs
+shared-slice-read-number-from-4 : tie.Need-shared-slice-read-number-from-4
+shared-slice-read-number-from-4 c = search needs
 
-number-of-requires : tie.Need-number-of-requires
-number-of-requires c κs = search needs
+number-from-requires : tie.Need-number-from-requires
+number-from-requires c κs = search needs
 
 add-verdict-of : tie.Need-add-verdict-of
 add-verdict-of c = search needs
@@ -67,7 +67,7 @@ verdict-of-requires c κs = search needs
 
 returns-3 : tie.Need-returns-3
 unfolding decoded
-returns-3 c = rw (eq-eqb _ _ (c .before .before .before .before .before .before .before .before .before .before .if1 .left), eq-eqb _ _ (c .before .before .before .before .before .before .before .before .if2 .left)) (c .verdict-of .ensures ∙ ap verdictOf (ap (eventOf _ _) (c .before .before .before .number-of .ensures)))
+returns-3 c = rw (eq-eqb _ _ (c .before .before .before .before .before .before .before .before .before .before .if1 .left), eq-eqb _ _ (c .before .before .before .before .before .before .before .before .if2 .left)) (c .verdict-of .ensures ∙ ap verdictOf (ap (eventOf _ _) (c .before .before .before .number-from .ensures)))
 
 pub verdict-at-spec : {M : Type 1} → statement M
 verdict-at-spec =
@@ -78,15 +78,15 @@ verdict-at-spec =
     add-if2
     shared-slice-read-if2
     returns-2
-    add-number-of
-    shared-slice-read-number-of
-    add-number-of-2
-    shared-slice-read-number-of-2
-    add-number-of-3
-    shared-slice-read-number-of-3
-    add-number-of-4
-    shared-slice-read-number-of-4
-    number-of-requires
+    add-number-from
+    shared-slice-read-number-from
+    add-number-from-2
+    shared-slice-read-number-from-2
+    add-number-from-3
+    shared-slice-read-number-from-3
+    add-number-from-4
+    shared-slice-read-number-from-4
+    number-from-requires
     add-verdict-of
     shared-slice-read-verdict-of
     add-verdict-of-2

@@ -6,7 +6,7 @@ use Rattle.device.specs.declared.Device.{Device}
 use Rattle.device.specs.declared.Timeouts.{Timeouts}
 use Rattle.device.specs.declared.Stepped.{Stepped}
 use Rattle.device.specs.Registers.{withInterrupts}
-use Rattle.device.specs.Events.{answerOf, stepOf}
+use Rattle.device.specs.Events.{replied, stepOf}
 use Rattle.device.proofs.Device.acknowledge.Statement.{statement}
 use Rattle.device.proofs.Device.acknowledge.Tie as tie
 
@@ -16,8 +16,8 @@ acknowledge-requires c κs = search needs
 with-interrupts-requires : tie.Need-with-interrupts-requires
 with-interrupts-requires c κs = search needs
 
-answer-of-requires : tie.Need-answer-of-requires
-answer-of-requires c κs = search needs
+replied-requires : tie.Need-replied-requires
+replied-requires c κs = search needs
 
 zero-requires : tie.Need-zero-requires
 zero-requires c κs = search needs
@@ -29,7 +29,7 @@ returns c =
     let k = c .before .before .before .before .acknowledge .ensures in
     λ i. record {
       device = (c .before .before .with-interrupts .ensures ∙ ap (λ (x : Acknowledged). withInterrupts (x .interrupts) d) k) i;
-      answer = (c .before .answer-of .ensures ∙ ap (λ (x : Acknowledged). answerOf (x .reply)) k) i;
+      answer = (c .before .replied .ensures ∙ ap (λ (x : Acknowledged). replied (x .reply)) k) i;
       timeouts = c .zero .ensures i;
     }
 
@@ -39,6 +39,6 @@ acknowledge-spec =
     (tie.spec
     acknowledge-requires
     with-interrupts-requires
-    answer-of-requires
+    replied-requires
     zero-requires
     returns)

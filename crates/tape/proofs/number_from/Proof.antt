@@ -1,9 +1,9 @@
--- `tape::number_of` meets its contract. Assumes nothing.
+-- `tape::number_from` meets its contract. Assumes nothing.
 use borrow.Author.Needs.{needs}
 use mathlib.Core.Path.{refl}
 use Rattle.tape.specs.Records.{number}
-use Rattle.tape.proofs.number_of.Statement.{statement}
-use Rattle.tape.proofs.number_of.Tie as tie
+use Rattle.tape.proofs.number_from.Statement.{statement}
+use Rattle.tape.proofs.number_from.Tie as tie
 
 mul-result : tie.Need-mul-result
 mul-result c = search needs
@@ -27,7 +27,7 @@ returns : tie.Need-returns
 unfolding number
 returns c = refl
 
-pub number-of-spec : {M : Type 1} → statement M
-number-of-spec =
+pub number-from-spec : {M : Type 1} → statement M
+number-from-spec =
     tie.close
     (tie.spec mul-result mul-result-2 add-result mul-result-3 add-result-2 add-result-3 returns)

@@ -82,10 +82,12 @@ fn usage() -> ExitCode {
 
 fn everything(tally: &mut Tally) {
     let mut lender = Lender::new();
-    for side in ["left", "right"] {
-        let name = format!("a byte outside on the {side} is noticed");
-        tally.case(&name, || is_noticed(side));
-    }
+    tally.case("a byte outside on the left is noticed", || {
+        is_noticed("left")
+    });
+    tally.case("a byte outside on the right is noticed", || {
+        is_noticed("right")
+    });
     tally.case("the sample tape and its ten lines", || {
         cases_bench::sample(&mut lender)
     });

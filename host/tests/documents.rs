@@ -1,0 +1,229 @@
+//! The documents name only what there is, and leave out no public function and no must-fail edit.
+#![deny(warnings)]
+
+use std::fs;
+use std::path::{Path, PathBuf};
+
+const DOCUMENTS: [&str; 7] = [
+    "README.md",
+    "docs/API.md",
+    "docs/DECISIONS.md",
+    "docs/LAYOUT.md",
+    "docs/MAP.md",
+    "docs/RULED_OUT.md",
+    "docs/TRUST.md",
+];
+
+fn root() -> PathBuf {
+    Path::new(env!("CARGO_MANIFEST_DIR")).join("..")
+}
+
+fn read(path: &str) -> String {
+    fs::read_to_string(root().join(path)).unwrap_or_else(|e| panic!("{path}: {e}"))
+}
+
+/// The names of what lies in a folder, in order; none where there is no such folder.
+fn names_in(path: &str) -> Vec<String> {
+    let Ok(folder) = fs::read_dir(root().join(path)) else {
+        return Vec::new();
+    };
+    let mut names: Vec<String> = folder
+        .map(|entry| entry.unwrap().file_name().into_string().unwrap())
+        .collect();
+    names.sort();
+    names
+}
+
+/// The crates that have a library.
+fn libraries() -> Vec<String> {
+    let mut crates = names_in("crates");
+    crates.retain(|name| root().join(format!("crates/{name}/src/lib.rt")).exists());
+    crates
+}
+
+fn source(library: &str) -> String {
+    read(&format!("crates/{library}/src/lib.rt"))
+}
+
+/// What stands between backquotes, with the document that has it.
+fn quoted() -> Vec<(&'static str, String)> {
+    let mut spans = Vec::new();
+    for document in DOCUMENTS {
+        let text = read(document);
+        for span in text.split('`').skip(1).step_by(2) {
+            spans.push((document, span.to_string()));
+        }
+    }
+    spans
+}
+
+/// Whether it could be the label of an edit: files and folders of a crate have other names.
+fn is_label(text: &str) -> bool {
+    let small = |c: char| c.is_ascii_lowercase() || c.is_ascii_digit() || c == '_';
+    text.chars().all(small) && !["src", "specs", "proofs", "stdin"].contains(&text)
+}
+
+/// Whether a name stands in a text, not as a part of a longer one.
+fn has_word(text: &str, word: &str) -> bool {
+    let inside = |c: char| c.is_alphanumeric() || "_-·′".contains(c);
+    text.match_indices(word).any(|(at, _)| {
+        let before = text[..at].chars().next_back();
+        let after = text[at + word.len()..].chars().next();
+        !before.is_some_and(inside) && !after.is_some_and(inside)
+    })
+}
+
+#[test]
+fn functions_named_are_there() {
+    let mut seen = 0;
+    for (document, span) in quoted() {
+        let Some((library, path)) = span.strip_prefix("fn ").and_then(|s| s.split_once(": "))
+        else {
+            continue;
+        };
+        let name = path.rsplit("::").next().unwrap();
+        let here = source(library).contains(&format!("fn {name}("));
+        assert!(here, "{document}: {span}");
+        seen += 1;
+    }
+    assert!(seen > 50, "{seen}");
+}
+
+#[test]
+fn definitions_and_theorems_named_are_there() {
+    let mut seen = 0;
+    for (document, span) in quoted() {
+        let Some((place, names)) = span.split_once(": ") else {
+            continue;
+        };
+        let Some((library, file)) = place.split_once('/') else {
+            continue;
+        };
+        let path = match file.strip_prefix("proofs/") {
+            Some(file) => format!("crates/{library}/proofs/{file}.antt"),
+            None => format!("crates/{library}/specs/{file}.antt"),
+        };
+        let text = read(&path);
+        for name in names.split(", ") {
+            assert!(has_word(&text, name), "{document}: {name} of {span}");
+            seen += 1;
+        }
+    }
+    assert!(seen > 200, "{seen}");
+}
+
+#[test]
+fn edits_named_are_there_and_all_are_listed() {
+    let crates = names_in("crates");
+    let mut seen = 0;
+    for (document, span) in quoted() {
+        let Some((library, edit)) = span.split_once('/') else {
+            continue;
+        };
+        if !is_label(edit) || !crates.iter().any(|name| name == library) {
+            continue;
+        }
+        let edits = names_in(&format!("crates/{library}/must-fail"));
+        assert!(
+            edits.contains(&format!("{edit}.edit")),
+            "{document}: {span}"
+        );
+        seen += 1;
+    }
+    let listed = read("docs/RULED_OUT.md");
+    for library in crates {
+        for file in names_in(&format!("crates/{library}/must-fail")) {
+            let label = format!("`{library}/{}`", file.trim_end_matches(".edit"));
+            assert!(listed.contains(&label), "docs/RULED_OUT.md lacks {label}");
+        }
+    }
+    assert!(seen > 60, "{seen}");
+}
+
+#[test]
+fn public_functions_are_listed() {
+    let listed = read("docs/API.md");
+    let mut seen = 0;
+    for library in libraries() {
+        for line in source(&library).lines() {
+            let line = line.trim_start();
+            let Some(rest) = line
+                .strip_prefix("pub fn ")
+                .or_else(|| line.strip_prefix("pub extern \"C\" fn "))
+            else {
+                continue;
+            };
+            let name = rest.split('(').next().unwrap();
+            let row = [format!("`{name}("), format!("::{name}(")];
+            let here = row.iter().any(|start| listed.contains(start));
+            assert!(here, "docs/API.md lacks {library}: {name}");
+            seen += 1;
+        }
+    }
+    assert!(seen > 50, "{seen}");
+}
+
+#[test]
+fn private_functions_that_ask_are_listed() {
+    let listed = read("docs/API.md");
+    let mut seen = 0;
+    for library in libraries() {
+        let mut name = String::new();
+        for line in source(&library).lines() {
+            let line = line.trim_start();
+            if let Some((_, rest)) = line.split_once("fn ") {
+                if !line.starts_with("//") {
+                    name = rest.split('(').next().unwrap().to_string();
+                }
+            }
+            if !line.starts_with("requires {") {
+                continue;
+            }
+            let row = listed.lines().find(|row| {
+                row.starts_with(&format!("| {library} |"))
+                    && (row.contains(&format!("`{name}`")) || row.contains(&format!("::{name}`")))
+            });
+            assert!(row.is_some(), "docs/API.md lacks {library}: {name}");
+            seen += 1;
+        }
+    }
+    assert!(seen > 20, "{seen}");
+}
+
+/// The sources of the tests, all in one text.
+fn tests() -> String {
+    let mut text = String::new();
+    for folder in ["host/differ/src", "host/tests"] {
+        for file in names_in(folder) {
+            if file.ends_with(".rs") {
+                text += &read(&format!("{folder}/{file}"));
+            }
+        }
+    }
+    text
+}
+
+#[test]
+fn cases_named_are_there() {
+    let tests = tests();
+    let mut seen = 0;
+    for row in read("docs/MAP.md")
+        .lines()
+        .filter(|line| line.starts_with('|'))
+    {
+        let Some(cases) = row.split(" | ").nth(3) else {
+            continue;
+        };
+        for case in cases.split('"').skip(1).step_by(2) {
+            // A group of cases, or a heading.
+            if case.ends_with("..") || case == "002 by heading" {
+                continue;
+            }
+            let function = case.replace(' ', "_");
+            let here = tests.contains(&format!("\"{case}\"")) || has_word(&tests, &function);
+            assert!(here, "docs/MAP.md: {case}");
+            seen += 1;
+        }
+    }
+    assert!(seen > 100, "{seen}");
+}

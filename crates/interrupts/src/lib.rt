@@ -1,6 +1,7 @@
 // The interrupt controller: four sets of sixteen channels and the vector register, by value. A set
 // is a u16 in which channel c is bit c. The rules stand in specs/Channels.antt and
-// specs/Interrupts.antt. A line number and a channel number are kept apart. Every function is total.
+// specs/Interrupts.antt. A line number and a channel number are kept apart. A method hands back the
+// interrupts as they then are, written out whole (D87). Every function is total.
 ghost use mathlib.Core.Path.{_≡_};
 ghost use Prim.Native.Nat.{_^_, _<_};
 ghost use mathlib.Core.Bool.{_&&_};

@@ -1,7 +1,7 @@
 // One timer of the MC68901: its mode, data value (`reload`), main counter, prescaler position and
 // output. The rules stand in specs/Timers.antt, one clock at a time; `clocks` takes any number of them
 // at once, without a loop. A method takes the timer and hands back the timer as it then is, written
-// out whole. Every one is total: it asks nothing of its timer.
+// out whole (D87). Every one is total: it asks nothing of its timer.
 ghost use mathlib.Core.Path.{_≡_};
 ghost use mathlib.Core.Bool.{not, _&&_};
 ghost use Prim.Native.Nat.{_≤_};

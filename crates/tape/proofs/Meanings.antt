@@ -1,9 +1,8 @@
 -- The event of each kind of record that is let pass. Assumes nothing.
-use Prim.Native.Nat.{ℕ, _%_, _≤_}
+use Prim.Native.Nat.{ℕ, _≤_}
 use mathlib.Core.Path.{_≡_, refl, sym, ap, _∙_}
 use mathlib.Core.Bool.{Bool, true, false, _&&_}
 use native.Mathlib.Omega.{arith}
-use native.Mathlib.Nat.{mod-eq-of-lt}
 use lib.Dec.{leb, eqb}
 use lib.ListN.{List·getD-eq-default}
 use borrow.Author.Tests.{leb-true, eqb-true, eqb-false}
@@ -15,7 +14,7 @@ use Rattle.device.specs.declared.Refusal.the-variants.{Kind, Operand}
 use Rattle.tape.specs.declared.Selected.{Selected}
 use Rattle.tape.specs.declared.Selected.the-variants.{Known, SerialPort}
 use Rattle.tape.specs.declared.Decoded.the-variants.{Valid, Invalid}
-use Rattle.tape.specs.Records.{registerOf, reading, writing, inputOf, kinds, eventOf}
+use Rattle.tape.specs.Records.{registerOf, reading, writing, inputOf, kinds, eventOf, number}
 use Rattle.tape.proofs.Tapes.{past}
 use Rattle.tape.proofs.Verdicts.{tested, no-event}
 
@@ -40,6 +39,11 @@ both-right true t p = p
 both-right false true p = refl
 both-right false false p = p
 
+-- a number of at most a byte is its lowest byte
+pub low-byte : (p q r s : ℕ) → number p q r s ≤ 255 → number p q r s ≡ s
+unfolding number
+low-byte p q r s h = omega arith
+
 -- refusal 6: no event above kind 7
 pub above-seven : (a n k : ℕ) → 8 ≤ k → eventOf k a n ≡ Invalid Kind
 unfolding eventOf
@@ -55,20 +59,28 @@ module _ (a n : ℕ) (e : Event) where
   unfolding eventOf
   is-read r f p = read-one (registerOf a) r e f (tested (leb a 23 && eqb n 0) Operand p .1)
 
-  pub is-write : (r : Register) → ((q : Register) → registerOf a ≡ Known q → r ≡ q) → eventOf 2 a n ≡ Valid e → Write r (n % 256) ≡ e
-  unfolding eventOf
-  is-write r f p =
-      let t = tested (leb a 23 && leb n 255) Operand p in
-      let h : n ≤ 255 = leb-true _ _ (both-right (leb a 23) (leb n 255) (t .0)) in
-      ap (Write r) (mod-eq-of-lt {m = 256} (omega arith)) ∙ write-one (registerOf a) r n e f (t .1)
+  -- in these three n is at most a byte, and so its lowest byte
+  module _ (low : ℕ) (l : n ≤ 255 → n ≡ low) where
+    pub is-write : (r : Register) → ((q : Register) → registerOf a ≡ Known q → r ≡ q) → eventOf 2 a n ≡ Valid e → Write r low ≡ e
+    unfolding eventOf
+    is-write r f p =
+        let t = tested (leb a 23 && leb n 255) Operand p in
+        let h : n ≤ 255 = leb-true _ _ (both-right (leb a 23) (leb n 255) (t .0)) in
+        ap (Write r) (sym (l h)) ∙ write-one (registerOf a) r n e f (t .1)
 
-  pub is-level : eventOf 3 a n ≡ Valid e → Level (line a) (eqb n 1) ≡ e
-  unfolding eventOf
-  is-level p = one (tested (leb a 7 && leb n 1) Operand p .1)
+    pub is-level : eventOf 3 a n ≡ Valid e → Level (line a) (eqb low 1) ≡ e
+    unfolding eventOf
+    is-level p =
+        let t = tested (leb a 7 && leb n 1) Operand p in
+        let h : n ≤ 1 = leb-true _ _ (both-right (leb a 7) (leb n 1) (t .0)) in
+        ap (λ (k : ℕ). Level (line a) (eqb k 1)) (sym (l (omega arith))) ∙ one (t .1)
 
-  pub is-input : eventOf 4 a n ≡ Valid e → Input (inputOf a) (eqb n 1) ≡ e
-  unfolding eventOf
-  is-input p = one (tested (leb a 1 && leb n 1) Operand p .1)
+    pub is-input : eventOf 4 a n ≡ Valid e → Input (inputOf a) (eqb low 1) ≡ e
+    unfolding eventOf
+    is-input p =
+        let t = tested (leb a 1 && leb n 1) Operand p in
+        let h : n ≤ 1 = leb-true _ _ (both-right (leb a 1) (leb n 1) (t .0)) in
+        ap (λ (k : ℕ). Input (inputOf a) (eqb k 1)) (sym (l (omega arith))) ∙ one (t .1)
 
   pub is-clocks : eventOf 5 a n ≡ Valid e → Clocks n ≡ e
   unfolding eventOf

@@ -121,21 +121,21 @@ fn number_from(p: u8, q: u8, r: u8, s: u8) -> u32
     p as u32 * 16777216 + q as u32 * 65536 + r as u32 * 256 + s as u32
 }
 
-// The event of the record that starts at byte `at`, if the check lets it pass. The event is written
-// out in each arm, not handed on from a call: so the compiler keeps it in registers.
+// The event of the record that starts at byte `at`, if the check lets it pass: then n is its lowest
+// byte in all kinds but 5. The event is written out in each arm, not handed on from a call, so that the
+// compiler keeps it in registers.
 fn event_at(tape: &[u8], at: usize) -> Event
     requires { ⌜ at + recordBytes ≤ length (now tape) ⌝ }
     ensures { λ r. ⌜ ((e : EventT) → decoded (now (tape .entry)) at ≡ Decoded.Valid e → r ≡ e) ⌝ }
 {
     let a = tape[at + 3];
-    let n = number_from(tape[at + 4], tape[at + 5], tape[at + 6], tape[at + 7]);
     match tape[at + 2] {
         0 => Event::Reset,
         1 => Event::Read(known(a)),
-        2 => Event::Write(known(a), (n % 256) as u8),
-        3 => Event::Level(Line(a), n == 1),
-        4 => Event::Input(input_of(a), n == 1),
-        5 => Event::Clocks(n),
+        2 => Event::Write(known(a), tape[at + 7]),
+        3 => Event::Level(Line(a), tape[at + 7] == 1),
+        4 => Event::Input(input_of(a), tape[at + 7] == 1),
+        5 => Event::Clocks(number_from(tape[at + 4], tape[at + 5], tape[at + 6], tape[at + 7])),
         6 => Event::Acknowledge(a == 1),
         _ => Event::Raise(Channel(a)),
     }

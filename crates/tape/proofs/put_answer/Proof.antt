@@ -1,7 +1,7 @@
 -- `tape::put_answer` meets its contract: five stores, each where the one before ends, are the answer's 22 bytes. Assumes nothing.
 use Prim.Native.Nat.{ℕ, _+_, _≤_}
 use mathlib.Core.List.{List, [], _++_}
-use mathlib.Core.Path.{_≡_, ap, _∙_}
+use mathlib.Core.Path.{_≡_, ap, ap₂, _∙_}
 use native.Mathlib.Omega.{arith}
 use lib.ListN.{length, take, drop}
 use Rattle.device.specs.declared.Stepped.{Stepped}
@@ -32,19 +32,20 @@ module _ (s : Stepped) (at : ℕ) (l : List ℕ) (room : at + 22 ≤ length l) w
   more : (p : ℕ) (x y : List ℕ) → p ≡ at + length x → at + length x ≤ length l → placed p y (placed at x l) ≡ placed at (x ++ y) l
   more p x y e f = ap (λ (k : ℕ). placed k y (placed at x l)) e ∙ placed-twice at x y l f
 
-  answered : (l₁ l₂ l₃ l₄ l₅ : List ℕ) → l₁ ≡ placed at h l → l₂ ≡ placed (at + 6) a l₁ → l₃ ≡ placed (at + 6 + 4) b l₂ → l₄ ≡ placed (at + 6 + 4 + 4) c l₃ → l₅ ≡ placed (at + 6 + 4 + 4 + 4) d l₄
+  answered : {h′ a′ b′ c′ d′ l₁ l₂ l₃ l₄ l₅ : List ℕ} → h′ ≡ h → a′ ≡ a → b′ ≡ b → c′ ≡ c → d′ ≡ d
+      → l₁ ≡ placed at h′ l → l₂ ≡ placed (at + 6) a′ l₁ → l₃ ≡ placed (at + 6 + 4) b′ l₂ → l₄ ≡ placed (at + 6 + 4 + 4) c′ l₃ → l₅ ≡ placed (at + 6 + 4 + 4 + 4) d′ l₄
       → l₅ ≡ take at l ++ answerOf s ++ drop (at + 22) l
   unfolding answerOf
-  answered l₁ l₂ l₃ l₄ l₅ e₁ e₂ e₃ e₄ e₅ = e₅ ∙ ap (placed (at + 6 + 4 + 4 + 4) d) to-c ∙ more (at + 6 + 4 + 4 + 4) (h ++ a ++ b ++ c) d (omega arith) (omega arith)
+  answered {l₂ = l₂} {l₃ = l₃} {l₄ = l₄} f₁ f₂ f₃ f₄ f₅ e₁ e₂ e₃ e₄ e₅ = e₅ ∙ ap₂ (placed (at + 6 + 4 + 4 + 4)) f₅ to-c ∙ more (at + 6 + 4 + 4 + 4) (h ++ a ++ b ++ c) d (omega arith) (omega arith)
     where
       to-a : l₂ ≡ placed at (h ++ a) l
-      to-a = e₂ ∙ ap (placed (at + 6) a) e₁ ∙ more (at + 6) h a (omega arith) (omega arith)
+      to-a = e₂ ∙ ap₂ (placed (at + 6)) f₂ (e₁ ∙ ap (λ (x : List ℕ). placed at x l) f₁) ∙ more (at + 6) h a (omega arith) (omega arith)
 
       to-b : l₃ ≡ placed at (h ++ a ++ b) l
-      to-b = e₃ ∙ ap (placed (at + 6 + 4) b) to-a ∙ more (at + 6 + 4) (h ++ a) b (omega arith) (omega arith)
+      to-b = e₃ ∙ ap₂ (placed (at + 6 + 4)) f₃ to-a ∙ more (at + 6 + 4) (h ++ a) b (omega arith) (omega arith)
 
       to-c : l₄ ≡ placed at (h ++ a ++ b ++ c) l
-      to-c = e₄ ∙ ap (placed (at + 6 + 4 + 4) c) to-b ∙ more (at + 6 + 4 + 4) (h ++ a ++ b) c (omega arith) (omega arith)
+      to-c = e₄ ∙ ap₂ (placed (at + 6 + 4 + 4)) f₄ to-b ∙ more (at + 6 + 4 + 4) (h ++ a ++ b) c (omega arith) (omega arith)
 
 head-requires : tie.Need-head-requires
 head-requires c κs = search needs
@@ -109,16 +110,17 @@ same-length c = search needs
 returns : tie.Need-returns
 returns c =
     let x = c .before .before .before .before .before .before .before .before .before .before .before .before .before .before .before .before .before .before .before .before .before .before .before .before .before .before .before .before .before .before .before .before .args in
-    let l₁ = c .before .before .before .before .before .before .before .before .before .before .before .before .before .before .before .before .before .before .before .before .before .before .put in
-    let l₂ = c .before .before .before .before .before .before .before .before .before .before .before .before .before .before .before .before .before .put2 in
-    let l₃ = c .before .before .before .before .before .before .before .before .before .before .before .before .put3 in
-    let l₄ = c .before .before .before .before .before .before .before .put4 in
-    answered (x .s) (x .at) (x .answers .now) (c .before .before .before .before .before .before .before .before .before .before .before .before .before .before .before .before .before .before .before .before .before .before .before .before .before .before .before .before .before .before .before .before .pre) (l₁ .last .1 .0) (l₂ .last .1 .0) (l₃ .last .1 .0) (l₄ .last .1 .0) _
-    (l₁ .ensures ∙ ap (λ (y : List ℕ). placed (x .at) y (x .answers .now)) (c .before .before .before .before .before .before .before .before .before .before .before .before .before .before .before .before .before .before .before .before .before .before .before .before .before .before .before .before .before .head .ensures))
-    (l₂ .ensures ∙ ap (λ (y : List ℕ). placed (x .at + 6) y (l₁ .last .1 .0)) (c .before .before .before .before .before .before .before .before .before .before .before .before .before .before .before .before .before .before .before .before .before .before .before .before .before .before .before .before .count-bytes .ensures))
-    (l₃ .ensures ∙ ap (λ (y : List ℕ). placed (x .at + 6 + 4) y (l₂ .last .1 .0)) (c .before .before .before .before .before .before .before .before .before .before .before .before .before .before .before .before .before .before .before .before .before .before .before .before .before .before .before .count-bytes2 .ensures))
-    (l₄ .ensures ∙ ap (λ (y : List ℕ). placed (x .at + 6 + 4 + 4) y (l₃ .last .1 .0)) (c .before .before .before .before .before .before .before .before .before .before .before .before .before .before .before .before .before .before .before .before .before .before .before .before .before .before .count-bytes3 .ensures))
-    (c .before .before .put5 .ensures ∙ ap (λ (y : List ℕ). placed (x .at + 6 + 4 + 4 + 4) y (l₄ .last .1 .0)) (c .before .before .before .before .before .before .before .before .before .before .before .before .before .before .before .before .before .before .before .before .before .before .before .before .before .count-bytes4 .ensures))
+    answered (x .s) (x .at) (x .answers .now) (c .before .before .before .before .before .before .before .before .before .before .before .before .before .before .before .before .before .before .before .before .before .before .before .before .before .before .before .before .before .before .before .before .pre)
+    (c .before .before .before .before .before .before .before .before .before .before .before .before .before .before .before .before .before .before .before .before .before .before .before .before .before .before .before .before .before .head .ensures)
+    (c .before .before .before .before .before .before .before .before .before .before .before .before .before .before .before .before .before .before .before .before .before .before .before .before .before .before .before .before .count-bytes .ensures)
+    (c .before .before .before .before .before .before .before .before .before .before .before .before .before .before .before .before .before .before .before .before .before .before .before .before .before .before .before .count-bytes2 .ensures)
+    (c .before .before .before .before .before .before .before .before .before .before .before .before .before .before .before .before .before .before .before .before .before .before .before .before .before .before .count-bytes3 .ensures)
+    (c .before .before .before .before .before .before .before .before .before .before .before .before .before .before .before .before .before .before .before .before .before .before .before .before .before .count-bytes4 .ensures)
+    (c .before .before .before .before .before .before .before .before .before .before .before .before .before .before .before .before .before .before .before .before .before .before .put .ensures)
+    (c .before .before .before .before .before .before .before .before .before .before .before .before .before .before .before .before .before .put2 .ensures)
+    (c .before .before .before .before .before .before .before .before .before .before .before .before .put3 .ensures)
+    (c .before .before .before .before .before .before .before .put4 .ensures)
+    (c .before .before .put5 .ensures)
 
 pub put-answer-spec : {M : Type 1} → statement M
 put-answer-spec =

@@ -1,3 +1,2 @@
 -- The laws of the device that its functions and its callers use.
-pub mod Raising
 pub mod Clocks

@@ -1,5 +1,6 @@
--- The device: its lines and timer inputs, its clocks, its registers, its events, and the image rule.
+-- The rules of the whole device, a file for each of the paper's chapters.
 pub mod Signals
 pub mod Clocks
 pub mod Registers
 pub mod Events
+pub mod Private

@@ -4,4 +4,5 @@ pub mod Sets
 pub mod Requests
 pub mod Asserted
 pub mod Neighbours
+pub mod Raises
 pub mod Rule

@@ -1,19 +1,18 @@
 -- What a raise and an acknowledge do to each channel. The failure that this part must make impossible is an acknowledge that
 -- clears a neighbour's pending bit: `acknowledge-clears-one` says that it clears its own channel's and no other. Assumes nothing.
 use Prim.Native.Nat.{ℕ, zero, suc, _-_, _*_, _/_, _%_, _^_, _<_}
-use mathlib.Core.Path.{_≡_, refl, sym, ap, ap₂, _∙_}
-use mathlib.Core.Bool.{Bool, true, false, cond, not, _&&_, _||_, Bool·beq}
+use mathlib.Core.Path.{_≡_, refl, sym, ap, _∙_}
+use mathlib.Core.Bool.{Bool, true, cond, not, _&&_, _||_, Bool·beq}
 use native.Mathlib.Nat.{pow-suc, mul-div-cancel}
 use native.Mathlib.Omega.{arith}
-use lib.Bits.{bitAnd, bitOr}
-use lib.Dec.{T, eqb, ltb, lit<, eqb·suc-zero, eqb·zero-suc, eqb·suc-suc}
+use lib.Dec.{eqb, lit<, eqb·suc-zero, eqb·zero-suc, eqb·suc-suc}
 use borrow.Author.Tests.{lt-ltb, ne-eqb}
 use Rattle.interrupts.specs.Channels.{has, setOf, channel}
 use Rattle.interrupts.specs.Interrupts.{raised, given, highest, acknowledged, S}
 use Rattle.interrupts.specs.declared.Channel.{Channel}
 use Rattle.interrupts.specs.declared.Interrupts.{Interrupts}
 use Rattle.interrupts.specs.declared.Requesting.the-variants.{By}
-use Rattle.interrupts.proofs.Tables.{allBelow, at, same}
+use Rattle.interrupts.proofs.Tables.{allBelow, everywhere, same}
 use Rattle.interrupts.proofs.Sets.{has-and, has-or, has-none, has-zero, has-suc}
 use Rattle.interrupts.proofs.Requests.{requesting-below, vectored}
 
@@ -38,7 +37,7 @@ others c k = Bool·beq (has (65535 - 2 ^ c) k) (not (eqb c k))
 
 has-others : (c k : ℕ) → c < 16 → k < 16 → has (65535 - 2 ^ c) k ≡ not (eqb c k)
 unfolding others has
-has-others c k h l = same _ _ (at 16 (others c) (at 16 (λ (c : ℕ). allBelow 16 (others c)) tt c h) k l)
+has-others c k h l = same _ _ (everywhere 16 (others c) (everywhere 16 (λ (c : ℕ). allBelow 16 (others c)) tt c h) k l)
 
 -- ---- a raise only adds
 pub raise-only-adds : (s : ℕ) (i : Interrupts) (k : ℕ) → has (raised s i .pending) k ≡ (has (i .pending) k || has s k && has (i .enabled) k)

@@ -12,7 +12,6 @@ use Rattle.interrupts.specs.declared.Interrupts.{Interrupts}
 use Rattle.interrupts.specs.declared.Requesting.{Requesting}
 use Rattle.interrupts.specs.declared.Requesting.the-variants.{By, Nobody}
 use Rattle.interrupts.specs.declared.Reply.the-variants.{Vector, PassedOn, Held}
-use Rattle.interrupts.specs.declared.Acknowledged.{Acknowledged}
 use Rattle.interrupts.proofs.Sets.{has-and, has-none}
 
 -- a channel that requests is both pending and unmasked

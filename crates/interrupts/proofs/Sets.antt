@@ -1,15 +1,14 @@
 -- Sets of channels, bit by bit. Assumes nothing.
-use Prim.Native.Nat.{ℕ, zero, suc, _+_, _-_, _*_, _/_, _%_, _^_, _≤_, _<_}
+use Prim.Native.Nat.{ℕ, zero, suc, _+_, _-_, _*_, _/_, _%_, _^_, _<_}
 use mathlib.Core.Path.{_≡_, refl, sym, ap, ap₂, subst, _∙_}
-use mathlib.Core.Bool.{Bool, true, false, cond, not, _&&_, _||_, Bool·beq, true≢false, false≢true}
+use mathlib.Core.Bool.{Bool, true, false, not, _&&_, _||_, Bool·beq, true≢false, false≢true}
 use native.Mathlib.Nat.{mod-lt, mod-eq-of-lt, one-mul, zero-div, div-one, div-add-mod', lt-of-lt-of-le, pow-suc}
 use native.Mathlib.Numerals.{one-add, add-one}
 use native.Mathlib.Omega.{arith}
 use lib.Bits.{bitAnd, bitOr, bitXor, and-shr, or-shr, xor-shr, and-mod, or-mod, xor-mod}
-use lib.Dec.{eqb, ltb, lit<}
-use lib.Pow.{pow-pos, pow-lt, pow-mono, shr-lt, shr-shr}
-use borrow.Author.Tests.{lt-ltb}
-use Rattle.interrupts.specs.Channels.{has, setOf, channel}
+use lib.Dec.{eqb, lit<}
+use lib.Pow.{pow-lt, pow-mono, shr-lt, shr-shr}
+use Rattle.interrupts.specs.Channels.{has, channel}
 
 -- ---- and, or
 and-bit : (p q : ℕ) → p < 2 → q < 2 → eqb (bitAnd p q) 1 ≡ (eqb p 1 && eqb q 1)
@@ -127,3 +126,20 @@ xor-bit (suc (suc p)) q h k = absurd (omega arith)
 pub has-xor : (a b k : ℕ) → has (bitXor a b) k ≡ not (Bool·beq (has a k) (has b k))
 unfolding has
 has-xor a b k = rw (xor-shr a b k, xor-mod (a / 2 ^ k) (b / 2 ^ k) 1) (xor-bit (a / 2 ^ k % 2) (b / 2 ^ k % 2) (bit-lt _) (bit-lt _))
+
+or·bool : (a b c : Bool) → ((a || b) || c) ≡ (a || (b || c))
+or·bool true b c = refl
+or·bool false b c = refl
+
+pub or-assoc : (a b c : ℕ) → bitOr (bitOr a b) c ≡ bitOr a (bitOr b c)
+or-assoc a b c = same-set _ _ λ k. simp has-or (or·bool (has a k) (has b k) (has c k))
+
+swap·bool : (a b c d : Bool) → ((a || b) || (c || d)) ≡ ((a || c) || (b || d))
+swap·bool true b c d = refl
+swap·bool false true true d = refl
+swap·bool false true false d = refl
+swap·bool false false true d = refl
+swap·bool false false false d = refl
+
+pub or-swap : (a b c d : ℕ) → bitOr (bitOr a b) (bitOr c d) ≡ bitOr (bitOr a c) (bitOr b d)
+or-swap a b c d = same-set _ _ λ k. simp has-or (swap·bool (has a k) (has b k) (has c k) (has d k))

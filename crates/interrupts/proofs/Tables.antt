@@ -1,6 +1,6 @@
 -- A rule of all numbers below some bound, proved by one test that antt computes. Assumes nothing.
-use Prim.Native.Nat.{ℕ, zero, suc, _≤_, _<_}
-use mathlib.Core.Path.{_≡_, refl, sym, ap, subst}
+use Prim.Native.Nat.{ℕ, zero, suc, _<_}
+use mathlib.Core.Path.{_≡_, refl, sym, subst}
 use mathlib.Core.Bool.{Bool, true, false, _&&_, Bool·beq}
 use native.Mathlib.Omega.{arith}
 use lib.Dec.{T, eqb}
@@ -19,9 +19,9 @@ right : (a b : Bool) → T (a && b) → T b
 right true b t = t
 right false b t = absurd t
 
-pub at : (n : ℕ) (p : ℕ → Bool) → T (allBelow n p) → (k : ℕ) → k < n → T (p k)
-at zero p t k h = absurd (omega arith)
-at (suc n) p t k h = go (eqb k n) refl (at n p (right (p n) (allBelow n p) t) k)
+pub everywhere : (n : ℕ) (p : ℕ → Bool) → T (allBelow n p) → (k : ℕ) → k < n → T (p k)
+everywhere zero p t k h = absurd (omega arith)
+everywhere (suc n) p t k h = go (eqb k n) refl (everywhere n p (right (p n) (allBelow n p) t) k)
   where
     go : (b : Bool) → eqb k n ≡ b → (k < n → T (p k)) → T (p k)
     go true e ih = subst (λ (m : ℕ). T (p m)) (sym (eqb-true k n e)) (left (p n) (allBelow n p) t)

@@ -7,11 +7,28 @@ use Rattle.interrupts.specs.Channels.{has, setOf, channel, half, withHal
 use Rattle.interrupts.specs.declared.Channel.{Channel}
 use Rattle.interrupts.specs.declared.Half.{Half}
 use Rattle.interrupts.specs.declared.Interrupts.{Interrupts}
+use Rattle.interrupts.specs.declared.InterruptRegister.{InterruptRegister}
+use Rattle.interrupts.specs.declared.InterruptRegister.the-variants.{Ier, Ipr, Isr, Imr, Vr}
 use Rattle.interrupts.specs.declared.Requesting.{Requesting}
 use Rattle.interrupts.specs.declared.Requesting.the-variants.{By, Nobody}
-use Rattle.interrupts.specs.declared.Reply.{Reply}
 use Rattle.interrupts.specs.declared.Reply.the-variants.{Vector, PassedOn, Held}
 use Rattle.interrupts.specs.declared.Acknowledged.{Acknowledged}
+
+-- ---- the interrupts with one part stored
+abbrev pub withEnabled : ℕ → Interrupts → Interrupts
+withEnabled s i = record { enabled = s; pending = i .pending; service = i .service; mask = i .mask; vector = i .vector }
+
+abbrev pub withPending : ℕ → Interrupts → Interrupts
+withPending s i = record { enabled = i .enabled; pending = s; service = i .service; mask = i .mask; vector = i .vector }
+
+abbrev pub withService : ℕ → Interrupts → Interrupts
+withService s i = record { enabled = i .enabled; pending = i .pending; service = s; mask = i .mask; vector = i .vector }
+
+abbrev pub withMask : ℕ → Interrupts → Interrupts
+withMask s i = record { enabled = i .enabled; pending = i .pending; service = i .service; mask = s; vector = i .vector }
+
+abbrev pub withVector : ℕ → Interrupts → Interrupts
+withVector v i = record { enabled = i .enabled; pending = i .pending; service = i .service; mask = i .mask; vector = v }
 
 -- ---- registers
 -- "IPR, ISR: a bit written 0 is cleared, a bit written 1 stays as it was."
@@ -20,25 +37,44 @@ kept h s v = withHalf h s (bitAnd (half h s) v)
 
 -- "IER: a write stores and clears the pending bits where it wrote 0; in-service bits stay."
 abbrev pub enabledWritten : Half → ℕ → Interrupts → Interrupts
-enabledWritten h v i = record { enabled = withHalf h (i .enabled) v; pending = kept h (i .pending) v; service = i .service; mask = i .mask; vector = i .vector }
+enabledWritten h v i = withEnabled (withHalf h (i .enabled) v) (withPending (kept h (i .pending) v) i)
 
 abbrev pub pendingWritten : Half → ℕ → Interrupts → Interrupts
-pendingWritten h v i = record { enabled = i .enabled; pending = kept h (i .pending) v; service = i .service; mask = i .mask; vector = i .vector }
+pendingWritten h v i = withPending (kept h (i .pending) v) i
 
 abbrev pub serviceWritten : Half → ℕ → Interrupts → Interrupts
-serviceWritten h v i = record { enabled = i .enabled; pending = i .pending; service = kept h (i .service) v; mask = i .mask; vector = i .vector }
+serviceWritten h v i = withService (kept h (i .service) v) i
 
 -- "AER, DDR, IMR: a write stores."
 abbrev pub maskWritten : Half → ℕ → Interrupts → Interrupts
-maskWritten h v i = record { enabled = i .enabled; pending = i .pending; service = i .service; mask = withHalf h (i .mask) v; vector = i .vector }
+maskWritten h v i = withMask (withHalf h (i .mask) v) i
 
 -- "Bit 3 is S"
 unfoldable pub S : ℕ → Bool
 S vector = has vector 3
 
--- "VR: bits 7 to 3 are stored; bits 2 to 0 read 0. Bit 3 is S; writing S as 0 clears ISRA and ISRB."
+-- "VR: bits 7 to 3 are stored; bits 2 to 0 read 0."
+abbrev pub vectorBits : ℕ → ℕ
+vectorBits v = v / 8 * 8
+
+-- "Bit 3 is S; writing S as 0 clears ISRA and ISRB."
 unfoldable pub vectorWritten : ℕ → Interrupts → Interrupts
-vectorWritten v i = record { enabled = i .enabled; pending = i .pending; service = cond (S v) (i .service) 0; mask = i .mask; vector = v / 8 * 8 }
+vectorWritten v i = withVector (vectorBits v) (withService (cond (S v) (i .service) 0) i)
+
+-- "3/4 IERA/IERB, 5/6 IPRA/IPRB, 7/8 ISRA/ISRB, 9/10 IMRA/IMRB, 11 VR": "A read [..] gives the stored byte, with the bits below that read 0."
+unfoldable pub interruptRead : InterruptRegister → Interrupts → ℕ
+interruptRead (Ier h) i = half h (i .enabled)
+interruptRead (Ipr h) i = half h (i .pending)
+interruptRead (Isr h) i = half h (i .service)
+interruptRead (Imr h) i = half h (i .mask)
+interruptRead Vr i = vectorBits (i .vector)
+
+unfoldable pub interruptWritten : InterruptRegister → ℕ → Interrupts → Interrupts
+interruptWritten (Ier h) v i = enabledWritten h v i
+interruptWritten (Ipr h) v i = pendingWritten h v i
+interruptWritten (Isr h) v i = serviceWritten h v i
+interruptWritten (Imr h) v i = maskWritten h v i
+interruptWritten Vr v i = vectorWritten v i
 
 -- "Reset clears [..] IER, IPR, ISR, IMR, VR"; "A fresh device is all zero."
 abbrev pub clearInterrupts : Interrupts
@@ -47,7 +83,7 @@ clearInterrupts = record { enabled = 0; pending = 0; service = 0; mask = 0; vect
 -- ---- channels
 -- "A raise on an enabled channel sets its pending bit; on a disabled one it does nothing.", of each channel of a set
 unfoldable pub raised : ℕ → Interrupts → Interrupts
-raised s i = record { enabled = i .enabled; pending = bitOr (i .pending) (bitAnd s (i .enabled)); service = i .service; mask = i .mask; vector = i .vector }
+raised s i = withPending (bitOr (i .pending) (bitAnd s (i .enabled))) i
 
 -- "A channel requests if it is pending, its mask bit is 1 and no channel equal to or above it is in service." (A set has no channel equal to or above c if, as a number, it is below 2 ^ c.)
 unfoldable pub requests : Interrupts → ℕ → Bool
@@ -71,13 +107,9 @@ highest i = highestBelow 16 i
 
 -- "the highest requesting channel c gives the vector (VR bits 7 to 4) × 16 + c, its pending bit is cleared, and its in-service bit is set if S is 1."
 unfoldable pub given : Channel → Interrupts → Interrupts
-given c i = record {
-  enabled = i .enabled;
-  pending = bitAnd (i .pending) (65535 - setOf c);
-  service = cond (S (i .vector)) (bitOr (i .service) (setOf c)) (i .service);
-  mask = i .mask;
-  vector = i .vector;
-}
+given c i =
+    withPending (bitAnd (i .pending) (65535 - setOf c))
+    (withService (cond (S (i .vector)) (bitOr (i .service) (setOf c)) (i .service)) i)
 
 unfoldable pub vectorOf : Channel → Interrupts → ℕ
 vectorOf c i = i .vector / 16 * 16 + c .0

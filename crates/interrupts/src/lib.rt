@@ -8,8 +8,9 @@ ghost use mathlib.Core.Bool.{_&&_};
 ghost use lib.Bits.{bitAnd};
 ghost use lib.Dec.{ltb};
 ghost use Rattle.interrupts.specs.Channels.{has, setOf, channelOf, half, withHalf};
+ghost use Rattle.interrupts.specs.Raises.{onlyIf};
 ghost use Rattle.interrupts.specs.declared.Interrupts.{Interrupts as InterruptsT};
-ghost use Rattle.interrupts.specs.Interrupts.{kept, S, enabledWritten, pendingWritten, serviceWritten, maskWritten, vectorWritten, clearInterrupts, raised, interruptRule, highest, irq, given, acknowledged};
+ghost use Rattle.interrupts.specs.Interrupts.{kept, S, enabledWritten, pendingWritten, serviceWritten, maskWritten, vectorWritten, vectorBits, interruptRead, interruptWritten, clearInterrupts, raised, interruptRule, highest, irq, given, acknowledged};
 
 // The number of a general-purpose line, 0 to 7.
 pub struct Line(pub u8);
@@ -21,6 +22,15 @@ pub struct Channel(pub u8);
 pub enum Half {
     A,
     B,
+}
+
+// The registers of the interrupt controller.
+pub enum InterruptRegister {
+    Ier(Half),
+    Ipr(Half),
+    Isr(Half),
+    Imr(Half),
+    Vr,
 }
 
 pub struct Interrupts {
@@ -73,6 +83,16 @@ pub fn set_of(c: Channel) -> u16
     1u16 << bit
 }
 
+// The set of a channel, or none.
+pub fn only_if(b: bool, c: Channel) -> u16
+    ensures { λ r. ⌜ r ≡ onlyIf b c ⌝ }
+{
+    if b {
+        return set_of(c);
+    }
+    0
+}
+
 // A register of a set.
 pub fn half_of(h: Half, s: u16) -> u8
     ensures { λ r. ⌜ r ≡ half h s ⌝ }
@@ -98,6 +118,13 @@ fn keep(h: Half, s: u16, v: u8) -> u16
     ensures { λ r. ⌜ r ≡ kept h s v ⌝ }
 {
     with_half(h, s, half_of(h, s) & v)
+}
+
+// The bits of VR that are stored and read.
+fn vector_bits(v: u8) -> u8
+    ensures { λ r. ⌜ r ≡ vectorBits v ⌝ }
+{
+    v / 8 * 8
 }
 
 // S of a vector register.
@@ -150,7 +177,7 @@ impl Interrupts {
         }
     }
 
-    pub fn write_enabled(self, h: Half, v: u8) -> Interrupts
+    fn write_enabled(self, h: Half, v: u8) -> Interrupts
         ensures { λ r. ⌜ r ≡ enabledWritten h v self ⌝ }
     {
         Interrupts {
@@ -162,7 +189,7 @@ impl Interrupts {
         }
     }
 
-    pub fn write_pending(self, h: Half, v: u8) -> Interrupts
+    fn write_pending(self, h: Half, v: u8) -> Interrupts
         ensures { λ r. ⌜ r ≡ pendingWritten h v self ⌝ }
     {
         Interrupts {
@@ -174,7 +201,7 @@ impl Interrupts {
         }
     }
 
-    pub fn write_service(self, h: Half, v: u8) -> Interrupts
+    fn write_service(self, h: Half, v: u8) -> Interrupts
         ensures { λ r. ⌜ r ≡ serviceWritten h v self ⌝ }
     {
         Interrupts {
@@ -186,7 +213,7 @@ impl Interrupts {
         }
     }
 
-    pub fn write_mask(self, h: Half, v: u8) -> Interrupts
+    fn write_mask(self, h: Half, v: u8) -> Interrupts
         ensures { λ r. ⌜ r ≡ maskWritten h v self ⌝ }
     {
         Interrupts {
@@ -198,10 +225,10 @@ impl Interrupts {
         }
     }
 
-    pub fn write_vector(self, v: u8) -> Interrupts
+    fn write_vector(self, v: u8) -> Interrupts
         ensures { λ r. ⌜ r ≡ vectorWritten v self ⌝ }
     {
-        let vector = v / 8 * 8;
+        let vector = vector_bits(v);
         if software_end(v) {
             return Interrupts {
                 enabled: self.enabled,
@@ -217,6 +244,30 @@ impl Interrupts {
             service: 0,
             mask: self.mask,
             vector: vector,
+        }
+    }
+
+    pub fn read(self, r: InterruptRegister) -> u8
+        ensures { λ v. ⌜ v ≡ interruptRead r self ⌝ }
+    {
+        match r {
+            InterruptRegister::Ier(h) => half_of(h, self.enabled),
+            InterruptRegister::Ipr(h) => half_of(h, self.pending),
+            InterruptRegister::Isr(h) => half_of(h, self.service),
+            InterruptRegister::Imr(h) => half_of(h, self.mask),
+            InterruptRegister::Vr => vector_bits(self.vector),
+        }
+    }
+
+    pub fn write(self, r: InterruptRegister, v: u8) -> Interrupts
+        ensures { λ i. ⌜ i ≡ interruptWritten r v self ⌝ }
+    {
+        match r {
+            InterruptRegister::Ier(h) => self.write_enabled(h, v),
+            InterruptRegister::Ipr(h) => self.write_pending(h, v),
+            InterruptRegister::Isr(h) => self.write_service(h, v),
+            InterruptRegister::Imr(h) => self.write_mask(h, v),
+            InterruptRegister::Vr => self.write_vector(v),
         }
     }
 

@@ -9,22 +9,22 @@ use native.Mathlib.Numerals.{one-add}
 use native.Mathlib.Nat.{zero-add, sub-zero, le-trans, le-refl}
 use lib.Dec.{eqb, leb, ltb, lit≤}
 use lib.ListN.{getD}
-use borrow.Author.Tests.{le-leb, lt-leb, lt-ltb, le-ltb, leb-true, leb-false, ltb-true, ltb-false, ne-eqb}
+use borrow.Author.Tests.{le-leb, lt-leb, lt-ltb, leb-true, leb-false, ltb-true, ne-eqb}
 use Rattle.timer.specs.declared.Timer.{Timer}
-use Rattle.timer.specs.Timers.{divisor, delay, pulseWidth, runs, at, timeout, reloaded, countedDown, pulsed, atDivisor, clocked, reloads, clocks, timeouts}
-use Rattle.timer.specs.Countdown.{unit, left, ranOut, span, toGo, toggled, pulsesIn, positionAfter, timeoutsIn, counterAfter}
-use Rattle.timer.proofs.Pulses.{pulses, pulseReloads, pulsed-mode, pulsed-reload, pulsed-position, pulsed-byte, pulses-count, pulses-at-once, atPulse}
+use Rattle.timer.specs.Timers.{divisor, delay, pulseWidth, runs, withPosition, timeout, reloaded, countedDown, pulsed, atDivisor, clocked, reloads, clocks, timeouts}
+use Rattle.timer.specs.Countdown.{unit, left, ranOut, toGo, toggled, pulsesIn, positionAfter, timeoutsIn, counterAfter}
+use Rattle.timer.proofs.Pulses.{pulses, pulseReloads, pulsed-mode, pulsed-position, pulses-count, pulses-at-once, atPulse}
 
 -- ---- one clock, in its three cases
 pub clock-idle : (active : Bool) (t : Timer) → runs active t ≡ false → clocked active t ≡ t
 unfolding clocked
 clock-idle active t h = rw h refl
 
-pub clock-pulse : (active : Bool) (t : Timer) → runs active t ≡ true → divisor (t .mode) ≤ t .position + 1 → clocked active t ≡ pulsed (at 0 t)
+pub clock-pulse : (active : Bool) (t : Timer) → runs active t ≡ true → divisor (t .mode) ≤ t .position + 1 → clocked active t ≡ pulsed (withPosition 0 t)
 unfolding clocked atDivisor
 clock-pulse active t h e = rw (h, le-leb _ _ e) refl
 
-pub clock-on : (active : Bool) (t : Timer) → runs active t ≡ true → t .position + 1 < divisor (t .mode) → clocked active t ≡ at (t .position + 1) t
+pub clock-on : (active : Bool) (t : Timer) → runs active t ≡ true → t .position + 1 < divisor (t .mode) → clocked active t ≡ withPosition (t .position + 1) t
 unfolding clocked atDivisor
 clock-on active t h e = rw (h, lt-leb _ _ e) refl
 
@@ -42,14 +42,14 @@ idle-timeouts active (suc n) t h = rw h (zero-add _ ∙ idle-timeouts active n t
 -- ---- a timer that runs, over the divisor d
 -- one clock
 abbrev turn : ℕ → Timer → Timer
-turn d t = cond (leb d (t .position + 1)) (pulsed (at 0 t)) (at (t .position + 1) t)
+turn d t = cond (leb d (t .position + 1)) (pulsed (withPosition 0 t)) (withPosition (t .position + 1) t)
 
 -- a pulse moves no position
-pulsed-at : (p : ℕ) (t : Timer) → at p (pulsed (at 0 t)) ≡ pulsed (at p t)
-unfolding pulsed at reloaded countedDown
+pulsed-at : (p : ℕ) (t : Timer) → withPosition p (pulsed (withPosition 0 t)) ≡ pulsed (withPosition p t)
+unfolding pulsed withPosition reloaded countedDown
 pulsed-at p t = go (eqb (t .counter) 1)
   where
-    go : (b : Bool) → at p (cond b (reloaded (at 0 t)) (countedDown (at 0 t))) ≡ cond b (reloaded (at p t)) (countedDown (at p t))
+    go : (b : Bool) → withPosition p (cond b (reloaded (withPosition 0 t)) (countedDown (withPosition 0 t))) ≡ cond b (reloaded (withPosition p t)) (countedDown (withPosition p t))
     go true = refl
     go false = refl
 
@@ -92,30 +92,30 @@ early-clock d p h = rw (toGo-below d p (omega arith)) (ne-eqb (d - p) 1 (omega a
 
 -- the timer after n clocks, and the reloads that they made
 abbrev after : ℕ → ℕ → ℕ → Timer → Timer
-after d n first t = pulses (ranOut d n first) (at (d - left d n first) t)
+after d n first t = pulses (ranOut d n first) (withPosition (d - left d n first) t)
 
 abbrev made : ℕ → ℕ → ℕ → Timer → ℕ
-made d n first t = pulseReloads (ranOut d n first) (at 0 t)
+made d n first t = pulseReloads (ranOut d n first) (withPosition 0 t)
 
 module _ (d n : ℕ) (t : Timer) where
   after-none : t .position < d → after d 0 (toGo d (t .position)) t ≡ t
-  unfolding pulses ranOut left at
-  after-none h = ap (λ (q : ℕ). at q t) (rw (toGo-below d (t .position) h) (omega arith))
+  unfolding pulses ranOut left withPosition
+  after-none h = ap (λ (q : ℕ). withPosition q t) (rw (toGo-below d (t .position) h) (omega arith))
 
-  after-clock : t .position + 1 < d → after d n (toGo d (t .position + 1)) (at (t .position + 1) t) ≡ after d (suc n) (toGo d (t .position)) t
-  unfolding ranOut left at
+  after-clock : t .position + 1 < d → after d n (toGo d (t .position + 1)) (withPosition (t .position + 1) t) ≡ after d (suc n) (toGo d (t .position)) t
+  unfolding ranOut left withPosition
   after-clock h = rw (early-clock d (t .position) h, zero-add, ← unit-clock d (t .position) h) refl
 
-  after-pulse : 1 ≤ d → d ≤ t .position + 1 → after d n (toGo d 0) (pulsed (at 0 t)) ≡ after d (suc n) (toGo d (t .position)) t
+  after-pulse : 1 ≤ d → d ≤ t .position + 1 → after d n (toGo d 0) (pulsed (withPosition 0 t)) ≡ after d (suc n) (toGo d (t .position)) t
   unfolding ranOut left pulses
   after-pulse q h = rw (last-clock d (t .position) q h, unit-pulse d (t .position) q h, one-add, toGo-below d 0 q, sub-zero, pulsed-at) refl
 
-  made-clock : t .position + 1 < d → made d n (toGo d (t .position + 1)) (at (t .position + 1) t) ≡ made d (suc n) (toGo d (t .position)) t
-  unfolding ranOut at
+  made-clock : t .position + 1 < d → made d n (toGo d (t .position + 1)) (withPosition (t .position + 1) t) ≡ made d (suc n) (toGo d (t .position)) t
+  unfolding ranOut withPosition
   made-clock h = rw (early-clock d (t .position) h, zero-add, ← unit-clock d (t .position) h) refl
 
-  made-pulse : 1 ≤ d → d ≤ t .position + 1 → cond (timeout t) 1 0 + made d n (toGo d 0) (pulsed (at 0 t)) ≡ made d (suc n) (toGo d (t .position)) t
-  unfolding ranOut pulseReloads at
+  made-pulse : 1 ≤ d → d ≤ t .position + 1 → cond (timeout t) 1 0 + made d n (toGo d 0) (pulsed (withPosition 0 t)) ≡ made d (suc n) (toGo d (t .position)) t
+  unfolding ranOut pulseReloads withPosition
   made-pulse q h = rw (last-clock d (t .position) q h, unit-pulse d (t .position) q h, one-add, toGo-below d 0 q, sub-zero) (ap (λ (u : Timer). cond (eqb (t .counter) 1) 1 0 + pulseReloads (ranOut d n d) u) (pulsed-at 0 t))
 
 -- ---- a running timer's own divisor
@@ -168,11 +168,11 @@ same-runs active u t e = ap (λ (m : ℕ). delay m || pulseWidth m && active) e
 
 -- what one clock leaves of a timer that runs
 module _ (active : Bool) (t : Timer) (h : runs active t ≡ true) where
-  by-clock : (P : Timer → Type 0) → (divisor (t .mode) ≤ t .position + 1 → P (pulsed (at 0 t))) → (t .position + 1 < divisor (t .mode) → P (at (t .position + 1) t)) → P (clocked active t)
+  by-clock : (P : Timer → Type 0) → (divisor (t .mode) ≤ t .position + 1 → P (pulsed (withPosition 0 t))) → (t .position + 1 < divisor (t .mode) → P (withPosition (t .position + 1) t)) → P (clocked active t)
   unfolding clocked atDivisor
   by-clock P f g = rw h (go (leb (divisor (t .mode)) (t .position + 1)) refl)
     where
-      go : (b : Bool) → leb (divisor (t .mode)) (t .position + 1) ≡ b → P (cond b (pulsed (at 0 t)) (at (t .position + 1) t))
+      go : (b : Bool) → leb (divisor (t .mode)) (t .position + 1) ≡ b → P (cond b (pulsed (withPosition 0 t)) (withPosition (t .position + 1) t))
       go true e = f (leb-true _ _ e)
       go false e = g (leb-false _ _ e)
 
@@ -180,23 +180,23 @@ module _ (active : Bool) (t : Timer) (h : runs active t ≡ true) where
   least = le-trans (lit≤ tt) (running-divisor active t h)
 
   pub clocked-mode : clocked active t .mode ≡ t .mode
-  unfolding at
-  clocked-mode = by-clock (λ u. u .mode ≡ t .mode) (λ e. pulsed-mode (at 0 t)) (λ e. refl)
+  unfolding withPosition
+  clocked-mode = by-clock (λ u. u .mode ≡ t .mode) (λ e. pulsed-mode (withPosition 0 t)) (λ e. refl)
 
   pub clocked-runs : runs active (clocked active t) ≡ true
   clocked-runs = same-runs active (clocked active t) t clocked-mode ∙ h
 
   pub clocked-below : clocked active t .position < divisor (clocked active t .mode)
-  unfolding at
-  clocked-below = rw clocked-mode (by-clock (λ u. u .position < divisor (t .mode)) (λ e. rw (pulsed-position (at 0 t)) least) (λ e. e))
+  unfolding withPosition
+  clocked-below = rw clocked-mode (by-clock (λ u. u .position < divisor (t .mode)) (λ e. rw (pulsed-position (withPosition 0 t)) least) (λ e. e))
 
   -- n clocks more end where n + 1 of the timer do, and make the reloads that those make after the first
   clocked-ended : (n : ℕ) → ended n (clocked active t) ≡ ended (suc n) t
-  unfolding at
+  unfolding withPosition
   clocked-ended n =
       ap (λ (d : ℕ). after d n (toGo d (clocked active t .position)) (clocked active t)) (ap divisor clocked-mode)
       ∙ by-clock (λ u. after (divisor (t .mode)) n (toGo (divisor (t .mode)) (u .position)) u ≡ ended (suc n) t)
-      (λ e. ap (λ (q : ℕ). after (divisor (t .mode)) n (toGo (divisor (t .mode)) q) (pulsed (at 0 t))) (pulsed-position (at 0 t)) ∙ after-pulse (divisor (t .mode)) n t least e)
+      (λ e. ap (λ (q : ℕ). after (divisor (t .mode)) n (toGo (divisor (t .mode)) q) (pulsed (withPosition 0 t))) (pulsed-position (withPosition 0 t)) ∙ after-pulse (divisor (t .mode)) n t least e)
       (λ e. after-clock (divisor (t .mode)) n t e)
 
   reloads-pulse : divisor (t .mode) ≤ t .position + 1 → reloads active t ≡ cond (timeout t) 1 0
@@ -208,12 +208,12 @@ module _ (active : Bool) (t : Timer) (h : runs active t ≡ true) where
   reloads-clock e = rw (h, lt-leb _ _ e) refl
 
   clocked-counted : (n : ℕ) → reloads active t + counted n (clocked active t) ≡ counted (suc n) t
-  unfolding at
+  unfolding withPosition
   clocked-counted n =
       ap (λ (d : ℕ). reloads active t + made d n (toGo d (clocked active t .position)) (clocked active t)) (ap divisor clocked-mode)
       ∙ by-clock (λ u. reloads active t + made (divisor (t .mode)) n (toGo (divisor (t .mode)) (u .position)) u ≡ counted (suc n) t)
-      (λ e. ap₂ (λ (r q : ℕ). r + made (divisor (t .mode)) n (toGo (divisor (t .mode)) q) (pulsed (at 0 t))) (reloads-pulse e) (pulsed-position (at 0 t)) ∙ made-pulse (divisor (t .mode)) n t least e)
-      (λ e. ap (λ (r : ℕ). r + made (divisor (t .mode)) n (toGo (divisor (t .mode)) (t .position + 1)) (at (t .position + 1) t)) (reloads-clock e) ∙ zero-add _ ∙ made-clock (divisor (t .mode)) n t e)
+      (λ e. ap₂ (λ (r q : ℕ). r + made (divisor (t .mode)) n (toGo (divisor (t .mode)) q) (pulsed (withPosition 0 t))) (reloads-pulse e) (pulsed-position (withPosition 0 t)) ∙ made-pulse (divisor (t .mode)) n t least e)
+      (λ e. ap (λ (r : ℕ). r + made (divisor (t .mode)) n (toGo (divisor (t .mode)) (t .position + 1)) (withPosition (t .position + 1) t)) (reloads-clock e) ∙ zero-add _ ∙ made-clock (divisor (t .mode)) n t e)
 
 -- n clocks of a timer that runs, its position below its divisor
 clocks-below : (active : Bool) (n : ℕ) (t : Timer) → runs active t ≡ true → t .position < divisor (t .mode) → clocks active n t ≡ ended n t
@@ -246,10 +246,10 @@ atOnce n t = record {
 }
 
 pub clocks-at-once : (active : Bool) (n : ℕ) (t : Timer) → runs active t ≡ true → t .reload < 256 → t .counter < 256 → (n ≡ 0 → ⊥) → clocks active n t ≡ atOnce n t
-unfolding pulsesIn positionAfter timeoutsIn counterAfter at atPulse
+unfolding pulsesIn positionAfter timeoutsIn counterAfter withPosition atPulse
 clocks-at-once active zero t h r k p = absurd (p refl)
-clocks-at-once active (suc n) t h r k p = clocks-running active n t h ∙ pulses-at-once (pulsesIn (suc n) t) (at (positionAfter (suc n) t) t) r k
+clocks-at-once active (suc n) t h r k p = clocks-running active n t h ∙ pulses-at-once (pulsesIn (suc n) t) (withPosition (positionAfter (suc n) t) t) r k
 
 pub timeouts-at-once : (active : Bool) (n : ℕ) (t : Timer) → runs active t ≡ true → timeouts active n t ≡ timeoutsIn (pulsesIn n t) t
-unfolding pulsesIn timeoutsIn at
-timeouts-at-once active n t h = timeouts-running active n t h ∙ pulses-count (pulsesIn n t) (at 0 t)
+unfolding pulsesIn timeoutsIn withPosition
+timeouts-at-once active n t h = timeouts-running active n t h ∙ pulses-count (pulsesIn n t) (withPosition 0 t)

@@ -1,13 +1,13 @@
 -- What happens to a timer keeps its part of the image rule: its position stays below its divisor, and 0 in modes 0 and 8.
 -- Assumes nothing.
-use Prim.Native.Nat.{ℕ, zero, suc, _%_, _≤_, _<_}
+use Prim.Native.Nat.{ℕ, zero, suc, _%_, _≤_}
 use mathlib.Core.Path.{_≡_, refl, sym, ap, ap₂, _∙_}
-use mathlib.Core.Bool.{Bool, true, false, cond, not, _&&_}
+use mathlib.Core.Bool.{Bool, true, false, cond}
 use native.Mathlib.Nat.{le-trans}
 use lib.Dec.{eqb, ltb, lit≤}
-use borrow.Author.Tests.{eq-eqb, ne-eqb, eqb-true, eqb-false, lt-ltb}
+use borrow.Author.Tests.{ne-eqb, eqb-true, eqb-false, lt-ltb}
 use Rattle.timer.specs.declared.Timer.{Timer}
-use Rattle.timer.specs.Timers.{divisor, runs, pulsed, clocked, clocks, controlled, reloadWritten, resetTimer, freshTimer, positionRule}
+use Rattle.timer.specs.Timers.{divisor, runs, pulsed, clocked, clocks, controlled, reloadWritten, resetTimer, positionRule}
 use Rattle.timer.proofs.Pulses.{pulsed-mode, pulsed-position}
 use Rattle.timer.proofs.Clocks.{divisor-runs, running-row, clock-idle, clocked-mode, clocked-runs, clocked-below}
 

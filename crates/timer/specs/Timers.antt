@@ -1,6 +1,6 @@
 -- Document 01, "Timers": the rules of one timer, in the paper's words and order.
 use Prim.Native.Nat.{ℕ, zero, suc, _+_, _-_, _%_}
-use mathlib.Core.Bool.{Bool, true, false, cond, not, _&&_, _||_}
+use mathlib.Core.Bool.{Bool, false, cond, not, _&&_, _||_}
 use mathlib.Core.List.{[], _∷_}
 use lib.Dec.{leb, ltb, eqb}
 use lib.ListN.{getD}
@@ -25,35 +25,47 @@ divisor mode = getD (0 ∷ 4 ∷ 10 ∷ 16 ∷ 50 ∷ 64 ∷ 100 ∷ 200 ∷ [])
 unfoldable pub runs : Bool → Timer → Bool
 runs active t = delay (t .mode) || pulseWidth (t .mode) && active
 
--- the timer at another position
-unfoldable pub at : ℕ → Timer → Timer
-at p t = record { mode = t .mode; reload = t .reload; counter = t .counter; position = p; output = t .output }
+-- ---- the timer with one part stored
+unfoldable pub withPosition : ℕ → Timer → Timer
+withPosition p t = record { mode = t .mode; reload = t .reload; counter = t .counter; position = p; output = t .output }
 
+abbrev pub withCounter : ℕ → Timer → Timer
+withCounter n t = record { mode = t .mode; reload = t .reload; counter = n; position = t .position; output = t .output }
+
+abbrev pub withOutput : Bool → Timer → Timer
+withOutput o t = record { mode = t .mode; reload = t .reload; counter = t .counter; position = t .position; output = o }
+
+-- ---- a count pulse
 -- Count pulse: "a counter of 1 is reloaded from the data value, the output toggles, the timer's channel is raised: a timeout."
 abbrev pub timeout : Timer → Bool
 timeout t = eqb (t .counter) 1
 
 unfoldable pub reloaded : Timer → Timer
-reloaded t = record { mode = t .mode; reload = t .reload; counter = t .reload; position = t .position; output = not (t .output) }
+reloaded t = withOutput (not (t .output)) (withCounter (t .reload) t)
 
 -- "Any other counter goes down by 1, and 0 goes to 255."
 unfoldable pub countedDown : Timer → Timer
-countedDown t = record { mode = t .mode; reload = t .reload; counter = cond (eqb (t .counter) 0) 255 (t .counter - 1); position = t .position; output = t .output }
+countedDown t = withCounter (cond (eqb (t .counter) 0) 255 (t .counter - 1)) t
 
 unfoldable pub pulsed : Timer → Timer
 pulsed t = cond (timeout t) (reloaded t) (countedDown t)
 
+-- ---- clocks
 -- One clock: "the position goes up by 1; at the divisor it becomes 0 and gives one count pulse." (A position past the divisor, which the image rule forbids, counts as at it.)
 unfoldable pub atDivisor : Timer → Bool
 atDivisor t = leb (divisor (t .mode)) (t .position + 1)
 
+-- whether one clock gives a count pulse
+abbrev pub givesPulse : Bool → Timer → Bool
+givesPulse active t = runs active t && atDivisor t
+
 -- "Otherwise a clock does nothing; in an inactive pulse-width mode the position is held."
 unfoldable pub clocked : Bool → Timer → Timer
-clocked active t = cond (runs active t) (cond (atDivisor t) (pulsed (at 0 t)) (at (t .position + 1) t)) t
+clocked active t = cond (givesPulse active t) (pulsed (withPosition 0 t)) (cond (runs active t) (withPosition (t .position + 1) t) t)
 
 -- the reloads, 0 or 1, that one clock makes
 unfoldable pub reloads : Bool → Timer → ℕ
-reloads active t = cond (runs active t && atDivisor t && timeout t) 1 0
+reloads active t = cond (givesPulse active t && timeout t) 1 0
 
 -- n clocks are n single clocks.
 unfoldable pub clocks : Bool → ℕ → Timer → Timer
@@ -65,6 +77,7 @@ unfoldable pub timeouts : Bool → ℕ → Timer → ℕ
 timeouts active zero t = 0
 timeouts active (suc n) t = reloads active t + timeouts active n (clocked active t)
 
+-- ---- writes, reset and fresh
 -- "A control write that changes the mode sets the position to 0; the same mode again keeps it. The counter stays." "bit 4 written 1 forces the timer's output low"
 unfoldable pub controlled : ℕ → Bool → Timer → Timer
 controlled mode low t = record { mode = mode; reload = t .reload; counter = t .counter; position = cond (eqb mode (t .mode)) (t .position) 0; output = not low && t .output }

@@ -1,14 +1,16 @@
 -- `device::done_with` meets its contract. Assumes nothing.
 use borrow.Author.Needs.{needs}
-use mathlib.Core.Path.{_≡_, refl, sym, ap, _∙_}
+use Rattle.events.specs.declared.Answer.the-variants.{Done}
+use Rattle.device.specs.declared.Begun.the-variants.{Whole}
 use Rattle.device.proofs.done_with.Statement.{statement}
 use Rattle.device.proofs.done_with.Tie as tie
 
-zero-requires : tie.Need-zero-requires
-zero-requires c κs = search needs
-
 returns : tie.Need-returns
-returns c = cc
+returns c = λ k. Whole (record { device = c .before .args .d; answer = Done; timeouts = c .zero .ensures k })
 
 pub done-with-spec : {M : Type 1} → statement M
-done-with-spec = tie.close (tie.spec zero-requires returns)
+done-with-spec =
+    tie.close
+    (tie.spec
+    (λ c κs. search needs)
+    returns)

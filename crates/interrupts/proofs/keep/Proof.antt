@@ -1,5 +1,4 @@
 -- `interrupts::keep` meets its contract. Assumes nothing.
-use mathlib.Core.Path.{_≡_}
 use borrow.Author.Needs.{needs}
 use Rattle.interrupts.specs.Interrupts.{kept}
 use Rattle.interrupts.proofs.keep.Statement.{statement}

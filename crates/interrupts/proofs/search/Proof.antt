@@ -1,7 +1,7 @@
 -- `interrupts::search` meets its contract. The loop's invariant: no channel from c up requests, so that the highest is
 -- the highest below c. The measure is c. Assumes nothing.
 use Prim.Native.Nat.{_-_, _≤_}
-use mathlib.Core.Path.{_≡_, refl, sym, _∙_, ap}
+use mathlib.Core.Path.{_≡_, refl, sym, _∙_}
 use native.Mathlib.Omega.{arith}
 use lib.Bits.{bitAnd}
 use Rattle.interrupts.specs.declared.Interrupts.{Interrupts}

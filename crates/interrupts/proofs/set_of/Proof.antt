@@ -1,5 +1,4 @@
 -- `interrupts::set_of` meets its contract. Assumes nothing.
-use mathlib.Core.Path.{_∙_, sym, ap}
 use borrow.Author.Needs.{needs}
 use borrow.Author.Tests.{lt-ltb, le-ltb}
 use Rattle.interrupts.specs.Channels.{setOf}

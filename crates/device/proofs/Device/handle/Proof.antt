@@ -1,14 +1,15 @@
 -- `Device::handle` meets its contract: refusal 3, then 7, then the step. Assumes nothing.
 use borrow.Author.Needs.{needs}
-use mathlib.Core.Path.{_≡_, refl, sym, ap, ap₂, _∙_}
+use mathlib.Core.Path.{_≡_, refl, sym, ap, _∙_}
 use borrow.Author.Tests.{not-true, not-false}
-use mathlib.Core.Bool.{Bool, true, false}
+use mathlib.Core.Bool.{true}
 use Rattle.device.specs.declared.Device.{Device}
-use Rattle.device.specs.declared.Event.{Event}
+use Rattle.events.specs.declared.Event.{Event}
+use Rattle.events.specs.Ranges.{inRange}
 use Rattle.device.specs.declared.Stepped.{Stepped}
 use Rattle.device.specs.declared.Handled.{Handled}
 use Rattle.device.specs.declared.Outcome.the-variants.{Answered}
-use Rattle.device.specs.Events.{imageRule, inRange, stepOf, handledOf}
+use Rattle.device.specs.Events.{imageRule, stepOf, handledOf}
 use Rattle.device.proofs.Device.handle.Statement.{statement}
 use Rattle.device.proofs.Device.handle.Tie as tie
 
@@ -17,22 +18,13 @@ answered : (d : Device) (e : Event) → imageRule d ≡ true → inRange e ≡ t
 unfolding handledOf
 answered d e r i p = rw (r, i) (ap (λ (s : Stepped). record { device = s .device; outcome = Answered (s .answer) (s .timeouts) }) p)
 
-keeps-rule-requires : tie.Need-keeps-rule-requires
-keeps-rule-requires c κs = search needs
-
 returns : tie.Need-returns
 unfolding handledOf
 returns c = rw (sym (c .before .keeps-rule .ensures) ∙ not-true _ (c .if1 .taken)) refl
 
-is-in-range-requires : tie.Need-is-in-range-requires
-is-in-range-requires c κs = search needs
-
 returns-2 : tie.Need-returns-2
 unfolding handledOf
 returns-2 c = rw (sym (c .before .before .before .keeps-rule .ensures) ∙ not-false _ (c .before .before .if1 .left), sym (c .before .is-in-range .ensures) ∙ not-true _ (c .if2 .taken)) refl
-
-step-requires : tie.Need-step-requires
-step-requires c κs = search needs
 
 returns-3 : tie.Need-returns-3
 returns-3 c =
@@ -42,4 +34,4 @@ returns-3 c =
 pub handle-spec : {M : Type 1} → statement M
 handle-spec =
     tie.close
-    (tie.spec keeps-rule-requires returns is-in-range-requires returns-2 step-requires returns-3)
+    (tie.spec (λ c κs. search needs) returns (λ c κs. search needs) returns-2 (λ c κs. search needs) returns-3)

@@ -1,5 +1,5 @@
 -- `Interrupts::give` meets its contract. Assumes nothing.
-use mathlib.Core.Path.{_≡_, _∙_, sym, refl}
+use mathlib.Core.Path.{_∙_, sym, refl}
 use borrow.Author.Needs.{needs}
 use Rattle.interrupts.specs.Interrupts.{given}
 use Rattle.interrupts.proofs.Interrupts.give.Statement.{statement}

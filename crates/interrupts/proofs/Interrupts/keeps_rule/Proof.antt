@@ -1,5 +1,5 @@
 -- `Interrupts::keeps_rule` meets its contract: the first test that fails decides. Assumes nothing.
-use mathlib.Core.Path.{_≡_, _∙_, sym, refl}
+use mathlib.Core.Path.{_∙_, sym, refl}
 use borrow.Author.Needs.{needs}
 use borrow.Author.Tests.{eq-eqb, ne-eqb}
 use Rattle.interrupts.specs.Interrupts.{interruptRule}

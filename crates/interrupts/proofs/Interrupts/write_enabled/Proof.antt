@@ -1,5 +1,4 @@
 -- `Interrupts::write_enabled` meets its contract, by those of the halves. Assumes nothing.
-use mathlib.Core.Path.{_≡_}
 use borrow.Author.Needs.{needs}
 use Rattle.interrupts.proofs.Interrupts.write_enabled.Statement.{statement}
 use Rattle.interrupts.proofs.Interrupts.write_enabled.Tie as tie

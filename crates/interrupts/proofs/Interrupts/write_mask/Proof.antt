@@ -1,5 +1,4 @@
 -- `Interrupts::write_mask` meets its contract, by those of the halves. Assumes nothing.
-use mathlib.Core.Path.{_≡_}
 use borrow.Author.Needs.{needs}
 use Rattle.interrupts.proofs.Interrupts.write_mask.Statement.{statement}
 use Rattle.interrupts.proofs.Interrupts.write_mask.Tie as tie

@@ -1,10 +1,10 @@
 -- `Timer::along` meets its contract: the clocks to go are a countdown from the divisor. Assumes nothing.
 use Prim.Native.Nat.{ℕ, _-_, _≤_, _<_, _%_}
-use mathlib.Core.Path.{_≡_, _∙_, sym, ap, ap₂}
+use mathlib.Core.Path.{_≡_, _∙_}
 use borrow.Author.Needs.{needs}
 use native.Mathlib.Omega.{arith}
 use native.Mathlib.Nat.{mod-eq-of-lt, lt-of-le-of-lt, sub-le}
-use Rattle.timer.specs.Countdown.{left, ranOut, toGo, pulsesIn, positionAfter}
+use Rattle.timer.specs.Countdown.{left, toGo, pulsesIn, positionAfter}
 use Rattle.timer.proofs.Countdowns.{left-le}
 use Rattle.timer.proofs.Clocks.{toGo-bounds}
 use Rattle.timer.proofs.Timer.along.Statement.{statement}

@@ -1,9 +1,8 @@
 -- `Timer::clock` meets its contract: the three cases of one clock. Assumes nothing.
-use mathlib.Core.Path.{_≡_, _∙_, sym, ap, subst}
-use Prim.Native.Nat.{ℕ, _+_, _≤_, _<_}
+use mathlib.Core.Path.{_∙_, sym}
 use borrow.Author.Needs.{needs}
 use borrow.Author.Tests.{not-true, not-false}
-use Rattle.timer.specs.Timers.{at}
+use Rattle.timer.specs.Timers.{withPosition}
 use Rattle.timer.proofs.Clocks.{clock-idle, clock-pulse, clock-on}
 use Rattle.timer.proofs.Timer.clock.Statement.{statement}
 use Rattle.timer.proofs.Timer.clock.Tie as tie
@@ -30,7 +29,7 @@ pulse-requires : tie.Need-pulse-requires
 pulse-requires c κs = search needs
 
 returns-2 : tie.Need-returns-2
-unfolding at
+unfolding withPosition
 returns-2 c =
     let a = c .before .before .before .before .before .before .args in
     let e = c .before .before .before .divisor-of .ensures in
@@ -40,7 +39,7 @@ cast-t : tie.Need-cast-t
 cast-t c = search needs
 
 returns-3 : tie.Need-returns-3
-unfolding at
+unfolding withPosition
 returns-3 c =
     let a = c .before .before .before .before .before .args in
     let e = c .before .before .divisor-of .ensures in

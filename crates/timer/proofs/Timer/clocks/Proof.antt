@@ -1,6 +1,5 @@
 -- `Timer::clocks` meets its contract, by the laws over the divisor. Assumes nothing.
-use mathlib.Core.Path.{_≡_, refl, _∙_, sym, ap}
-use Prim.Native.Nat.{_<_}
+use mathlib.Core.Path.{refl, _∙_, sym}
 use borrow.Author.Needs.{needs}
 use borrow.Author.Tests.{not-true, not-false}
 use native.Mathlib.Omega.{arith}

@@ -1,7 +1,6 @@
 -- `Timer::down` meets its contract: the counter is a countdown from the data value. Assumes nothing.
-use mathlib.Core.Path.{_≡_, _∙_, sym, ap}
 use borrow.Author.Needs.{needs}
-use Rattle.timer.specs.Countdown.{span, timeoutsIn, counterAfter}
+use Rattle.timer.specs.Countdown.{timeoutsIn, counterAfter}
 use Rattle.timer.proofs.Pulses.{span-pos}
 use Rattle.timer.proofs.Timer.down.Statement.{statement}
 use Rattle.timer.proofs.Timer.down.Tie as tie

@@ -1,0 +1,26 @@
+-- `Device::begin_acknowledge` meets its contract. Assumes nothing.
+use mathlib.Core.Path.{_∙_}
+use borrow.Author.Needs.{needs}
+use Rattle.device.specs.Events.{replied, stepOf}
+use Rattle.device.specs.Registers.{withInterrupts}
+use Rattle.device.proofs.Device.begin_acknowledge.Statement.{statement}
+use Rattle.device.proofs.Device.begin_acknowledge.Tie as tie
+
+returns : tie.Need-returns
+unfolding stepOf
+returns c =
+    let d = c .before .before .before .before .before .args .self in
+    λ k. record {
+      device = withInterrupts (c .before .before .before .acknowledge .ensures k .interrupts) d;
+      answer = (c .before .replied .ensures ∙ (λ i. replied (c .before .before .before .acknowledge .ensures i .reply))) k;
+      timeouts = c .zero .ensures k;
+    }
+
+pub begin-acknowledge-spec : {M : Type 1} → statement M
+begin-acknowledge-spec =
+    tie.close
+    (tie.spec
+    (λ c κs. search needs)
+    (λ c κs. search needs)
+    (λ c κs. search needs)
+    returns)

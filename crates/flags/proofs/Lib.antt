@@ -1,0 +1,2 @@
+-- The bound of a bit's value.
+pub mod Bits

@@ -1,0 +1,2 @@
+-- A truth value as a bit.
+pub mod Bits

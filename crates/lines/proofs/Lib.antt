@@ -1,0 +1,2 @@
+-- The laws of the lines that its functions use.
+pub mod Raising

@@ -10,7 +10,7 @@ use Rattle.interrupts.specs.Channels.{line, channel}
 use Rattle.device.specs.declared.Device.{Device}
 use Rattle.device.specs.declared.Event.{Event}
 use Rattle.device.specs.declared.Event.the-variants.{Reset, Read, Write, Level, Input, Clocks, Acknowledge, Raise}
-use Rattle.device.specs.declared.Refusal.the-variants.{RecordMark}
+use Rattle.events.specs.declared.Refusal.the-variants.{RecordMark}
 use Rattle.device.specs.Events.{stepOf, imageRule}
 use Rattle.image.specs.declared.Loaded.the-variants.{Accepted}
 use Rattle.image.specs.Image.{byte, deviceOf, loadOf}

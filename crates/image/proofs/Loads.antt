@@ -1,6 +1,6 @@
 -- What an accepted image has shown: its length, its mark, its rule, and its device. Assumes nothing.
 use Prim.Native.Nat.{ℕ}
-use mathlib.Core.Path.{_≡_, refl, sym, ap, _∙_}
+use mathlib.Core.Path.{_≡_, refl}
 use mathlib.Core.Bool.{Bool, true, false, cond, _&&_}
 use mathlib.Core.List.{List}
 use native.Mathlib.Omega.{arith}
@@ -8,26 +8,25 @@ use lib.Dec.{eqb}
 use lib.ListN.{length}
 use borrow.Author.Tests.{eqb-true}
 use Rattle.device.specs.declared.Device.{Device}
-use Rattle.device.specs.declared.Refusal.{Refusal}
-use Rattle.device.specs.declared.Refusal.the-variants.{ImageLength, ImageMark, ImageRule}
+use Rattle.events.specs.declared.Refusal.{Refusal}
+use Rattle.events.specs.declared.Refusal.the-variants.{ImageLength, ImageMark, ImageRule}
 use Rattle.device.specs.Events.{imageRule}
-use Rattle.image.specs.declared.Loaded.{Loaded}
 use Rattle.image.specs.declared.Loaded.the-variants.{Accepted, Refused}
-use Rattle.image.specs.Image.{mark0, mark1, byte, deviceOf, unusedZero, loadOf}
+use Rattle.image.specs.Image.{imageBytes, imageMark0, imageMark1, byte, deviceOf, unusedZero, loadOf}
 
 never : {X : Type 0} {r : Refusal} {d : Device} → Refused r ≡ Accepted d → X
 never e = let z : _≡_ {A = ℕ} 0 1 = cc in absurd (omega arith)
 
 pub record Read (b : List ℕ) (d : Device) : Type 0 where
-  pub whole : length b ≡ 32
-  pub first : byte b 0 ≡ mark0
-  pub second : byte b 1 ≡ mark1
+  pub whole : length b ≡ imageBytes
+  pub first : byte b 0 ≡ imageMark0
+  pub second : byte b 1 ≡ imageMark1
   pub unused : unusedZero b ≡ true
   pub ruled : imageRule (deviceOf b) ≡ true
   pub is : d ≡ deviceOf b
 
 module _ (b : List ℕ) (d : Device) where
-  by-tests : (l m n u r : Bool) → eqb (length b) 32 ≡ l → eqb (byte b 0) mark0 ≡ m → eqb (byte b 1) mark1 ≡ n → unusedZero b ≡ u → imageRule (deviceOf b) ≡ r
+  by-tests : (l m n u r : Bool) → eqb (length b) imageBytes ≡ l → eqb (byte b 0) imageMark0 ≡ m → eqb (byte b 1) imageMark1 ≡ n → unusedZero b ≡ u → imageRule (deviceOf b) ≡ r
       → cond l (cond (m && n) (cond (u && r) (Accepted (deviceOf b)) (Refused ImageRule)) (Refused ImageMark)) (Refused ImageLength) ≡ Accepted d → Read b d
   by-tests true true true true true p q s t v e = record { whole = eqb-true _ _ p; first = eqb-true _ _ q; second = eqb-true _ _ s; unused = t; ruled = v; is = cc }
   by-tests true true true true false p q s t v e = never e
@@ -38,4 +37,4 @@ module _ (b : List ℕ) (d : Device) where
 
   pub read : loadOf b ≡ Accepted d → Read b d
   unfolding loadOf
-  read e = by-tests (eqb (length b) 32) (eqb (byte b 0) mark0) (eqb (byte b 1) mark1) (unusedZero b) (imageRule (deviceOf b)) refl refl refl refl refl e
+  read e = by-tests (eqb (length b) imageBytes) (eqb (byte b 0) imageMark0) (eqb (byte b 1) imageMark1) (unusedZero b) (imageRule (deviceOf b)) refl refl refl refl refl e

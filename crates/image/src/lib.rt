@@ -1,18 +1,18 @@
 // The 32-byte image of a device: load, save, fresh. The layout stands in specs/Image.antt. No
 // function has a `requires` but the private readers, which want a whole image.
 use device::Device;
-use device::Lines;
-use device::Refusal;
-use device::Timers;
+use events::Refusal;
 use interrupts::Half;
 use interrupts::Interrupts;
+use lines::Lines;
 use timer::Timer;
+use timers::Timers;
 ghost use mathlib.Core.Path.{_≡_};
 ghost use Prim.Native.Nat.{_+_, _*_, _<_};
 ghost use lib.ListN.{length};
 ghost use Rattle.interrupts.specs.Channels.{has};
-ghost use Rattle.device.specs.Events.{bit};
-ghost use Rattle.image.specs.Image.{imageBytes, imageOf, linesOf, interruptsOf, timersOf, deviceOf, unusedZero, loadOf, storedOver, savedOf, savedOver, timerAt};
+ghost use Rattle.flags.specs.Bits.{bitValue};
+ghost use Rattle.image.specs.Image.{imageBytes, imageOf, linesFrom, interruptsFrom, timersFrom, timerFrom, unusedZero, loadOf, storedOver, savedOf, savedOver};
 
 pub const IMAGE_BYTES: usize = 32;
 
@@ -44,9 +44,9 @@ fn bit_at(b: u8, k: u8) -> bool
     (b >> k) % 2 == 1
 }
 
-fn lines_of(image: &[u8]) -> Lines
+fn lines_from(image: &[u8]) -> Lines
     requires { ⌜ length (now image) ≡ imageBytes ⌝ }
-    ensures { λ r. ⌜ r ≡ linesOf (now (image .entry)) ⌝ }
+    ensures { λ r. ⌜ r ≡ linesFrom (now (image .entry)) ⌝ }
 {
     let inputs = image[31];
     Lines {
@@ -59,9 +59,9 @@ fn lines_of(image: &[u8]) -> Lines
     }
 }
 
-fn interrupts_of(image: &[u8]) -> Interrupts
+fn interrupts_from(image: &[u8]) -> Interrupts
     requires { ⌜ length (now image) ≡ imageBytes ⌝ }
-    ensures { λ r. ⌜ r ≡ interruptsOf (now (image .entry)) ⌝ }
+    ensures { λ r. ⌜ r ≡ interruptsFrom (now (image .entry)) ⌝ }
 {
     Interrupts {
         enabled: pair(image[5], image[6]),
@@ -73,10 +73,10 @@ fn interrupts_of(image: &[u8]) -> Interrupts
 }
 
 // The timer whose data value stands at byte `at`, with this mode and output.
-fn timer_at(image: &[u8], at: usize, mode: u8, output: bool) -> Timer
+fn timer_from(image: &[u8], at: usize, mode: u8, output: bool) -> Timer
     requires { ⌜ length (now image) ≡ imageBytes ⌝ }
     requires { ⌜ at < 21 ⌝ }
-    ensures { λ r. ⌜ r ≡ timerAt (now (image .entry)) at mode output ⌝ }
+    ensures { λ r. ⌜ r ≡ timerFrom (now (image .entry)) at mode output ⌝ }
 {
     Timer {
         mode: mode,
@@ -87,17 +87,17 @@ fn timer_at(image: &[u8], at: usize, mode: u8, output: bool) -> Timer
     }
 }
 
-fn timers_of(image: &[u8]) -> Timers
+fn timers_from(image: &[u8]) -> Timers
     requires { ⌜ length (now image) ≡ imageBytes ⌝ }
-    ensures { λ r. ⌜ r ≡ timersOf (now (image .entry)) ⌝ }
+    ensures { λ r. ⌜ r ≡ timersFrom (now (image .entry)) ⌝ }
 {
     let tcdcr = image[16];
     let outputs = image[29];
     Timers {
-        a: timer_at(image, 17, image[14], bit_at(outputs, 0)),
-        b: timer_at(image, 18, image[15], bit_at(outputs, 1)),
-        c: timer_at(image, 19, tcdcr / 16 % 8, bit_at(outputs, 2)),
-        d: timer_at(image, 20, tcdcr % 8, bit_at(outputs, 3)),
+        a: timer_from(image, 17, image[14], bit_at(outputs, 0)),
+        b: timer_from(image, 18, image[15], bit_at(outputs, 1)),
+        c: timer_from(image, 19, tcdcr / 16 % 8, bit_at(outputs, 2)),
+        d: timer_from(image, 20, tcdcr % 8, bit_at(outputs, 3)),
     }
 }
 
@@ -135,9 +135,9 @@ pub fn load(image: &[u8]) -> Loaded
         return Loaded::Refused(Refusal::ImageRule);
     }
     let d = Device {
-        lines: lines_of(image),
-        interrupts: interrupts_of(image),
-        timers: timers_of(image),
+        lines: lines_from(image),
+        interrupts: interrupts_from(image),
+        timers: timers_from(image),
     };
     if !d.keeps_rule() {
         return Loaded::Refused(Refusal::ImageRule);
@@ -169,7 +169,7 @@ fn bytes_of(d: Device) -> [u8; IMAGE_BYTES]
         i.vector,
         t.a.mode,
         t.b.mode,
-        t.c.mode % 8 * 16 + t.d.mode % 8,
+        t.tcdcr(),
         t.a.reload,
         t.b.reload,
         t.c.reload,
@@ -182,7 +182,7 @@ fn bytes_of(d: Device) -> [u8; IMAGE_BYTES]
         t.b.position,
         t.c.position,
         t.d.position,
-        d.outputs(),
+        t.outputs(),
         l.levels,
         inputs_of(l),
     ]
@@ -190,18 +190,9 @@ fn bytes_of(d: Device) -> [u8; IMAGE_BYTES]
 
 // TAI bit 0, TBI bit 1.
 fn inputs_of(l: Lines) -> u8
-    ensures { λ r. ⌜ r ≡ bit (l .tai) 1 + bit (l .tbi) 2 ⌝ }
+    ensures { λ r. ⌜ r ≡ bitValue (l .tai) 1 + bitValue (l .tbi) 2 ⌝ }
 {
-    if l.tai {
-        if l.tbi {
-            return 3;
-        }
-        return 1;
-    }
-    if l.tbi {
-        return 2;
-    }
-    0
+    flags::bit_value(l.tai, 1) + flags::bit_value(l.tbi, 2)
 }
 
 // Writes a device over a buffer of an image's length; leaves any other buffer as it came.

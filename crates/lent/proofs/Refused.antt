@@ -3,12 +3,14 @@
 use mathlib.Core.Path.{_≡_, refl}
 use mathlib.Core.Bool.{Bool, true, false, cond}
 use Rattle.device.specs.declared.Device.{Device}
-use Rattle.device.specs.declared.Event.{Event}
-use Rattle.device.specs.declared.Refusal.{Refusal}
-use Rattle.device.specs.declared.Refusal.the-variants.{ImageRule, Operand}
+use Rattle.events.specs.declared.Event.{Event}
+use Rattle.events.specs.declared.Refusal.{Refusal}
+use Rattle.events.specs.declared.Refusal.the-variants.{ImageRule, Operand}
 use Rattle.device.specs.declared.Outcome.the-variants.{Answered, Refused}
 use Rattle.device.specs.declared.Handled.{Handled}
-use Rattle.device.specs.Events.{stepOf, imageRule, inRange, numberOf, handledOf}
+use Rattle.events.specs.Numbers.{numberOf}
+use Rattle.events.specs.Ranges.{inRange}
+use Rattle.device.specs.Events.{stepOf, imageRule, handledOf}
 
 pub breaks-rule : (d : Device) (e : Event) → imageRule d ≡ false → handledOf d e ≡ record { device = d; outcome = Refused ImageRule }
 unfolding handledOf

@@ -10,13 +10,13 @@ use denote.Laws.{Is, Makes, Typed}
 use denote.Struct.Laws as LL
 use denote.Enum.Laws as LE
 use Rattle.device.specs.declared.Device.{Device}
-use Rattle.device.specs.declared.Event.{Event}
+use Rattle.events.specs.declared.Event.{Event}
 use Rattle.device.specs.declared.Outcome.{Outcome}
 use Rattle.device.specs.declared.Handled.{Handled}
 use Rattle.device.proofs.Device as D
 use Rattle.device.proofs.Device.Laws as D′
-use Rattle.device.proofs.Event as E
-use Rattle.device.proofs.Event.Laws as E′
+use Rattle.events.proofs.Event as E
+use Rattle.events.proofs.Event.Laws as E′
 use Rattle.device.proofs.Outcome as O
 use Rattle.device.proofs.Outcome.Laws as O′
 use Rattle.device.proofs.Handled as R

@@ -5,7 +5,7 @@ ghost use Rattle.device.specs.Events.{handledOf};
 
 // One event of a lent record. A record that breaks the image rule is refused with 3, an operand out
 // of range with 7; the record is then as it came.
-pub fn event(d: &mut device::Device, e: device::Event) -> device::Outcome
+pub fn event(d: &mut device::Device, e: events::Event) -> device::Outcome
     ensures { λ r. ⌜ (r ≡ handledOf (now (d .entry)) e .outcome) × (now (d .exit) ≡ handledOf (now (d .entry)) e .device) ⌝ }
 {
     let out = (*d).handle(e);
@@ -14,7 +14,7 @@ pub fn event(d: &mut device::Device, e: device::Event) -> device::Outcome
 }
 
 // The same by value, over a local that it lends: its callers lend nothing.
-pub fn event_by_value(d: device::Device, e: device::Event) -> device::Handled
+pub fn event_by_value(d: device::Device, e: events::Event) -> device::Handled
     ensures { λ r. ⌜ r ≡ handledOf d e ⌝ }
 {
     let mut n = d;

@@ -4,7 +4,7 @@ use mathlib.Core.Bool.{cond}
 use mathlib.Core.List.{List}
 use lib.Dec.{eqb}
 use lib.ListN.{length}
-use Rattle.device.specs.declared.Refusal.the-variants.{ImageLength}
+use Rattle.events.specs.declared.Refusal.the-variants.{ImageLength}
 use Rattle.device.specs.Events.{freshDevice, numberOf}
 use Rattle.image.specs.Image.{imageBytes, storedOver}
 

@@ -7,8 +7,8 @@ use native.Mathlib.Omega.{arith}
 use lib.Dec.{eqb, leb}
 use lib.ListN.{length}
 use borrow.Author.Tests.{eq-eqb, ne-eqb, le-leb, lt-leb, leb-true, eqb-true}
-use Rattle.device.specs.declared.Refusal.{Refusal}
-use Rattle.device.specs.declared.Refusal.the-variants.{ImageLength, ImageMark, ImageRule, TapeLength, RecordMark, Kind, Operand, Serial, AnswerLength}
+use Rattle.events.specs.declared.Refusal.{Refusal}
+use Rattle.events.specs.declared.Refusal.the-variants.{ImageLength, ImageMark, ImageRule, TapeLength, RecordMark, Kind, Operand, Serial, AnswerLength}
 use Rattle.device.specs.Events.{numberOf}
 use Rattle.tape.specs.declared.Decoded.{Decoded}
 use Rattle.tape.specs.declared.Decoded.the-variants.{Valid, Invalid}

@@ -10,7 +10,7 @@ use Rattle.interrupts.specs.Channels.{line, channel}
 use Rattle.device.specs.declared.Register.{Register}
 use Rattle.device.specs.declared.Event.{Event}
 use Rattle.device.specs.declared.Event.the-variants.{Reset, Read, Write, Level, Input, Clocks, Acknowledge, Raise}
-use Rattle.device.specs.declared.Refusal.the-variants.{Kind, Operand}
+use Rattle.events.specs.declared.Refusal.the-variants.{Kind, Operand}
 use Rattle.tape.specs.declared.Selected.{Selected}
 use Rattle.tape.specs.declared.Selected.the-variants.{Known, SerialPort}
 use Rattle.tape.specs.declared.Decoded.the-variants.{Valid, Invalid}

@@ -8,7 +8,7 @@ use lib.Dec.{eqb}
 use lib.ListN.{length, drop}
 use borrow.Author.Tests.{eq-eqb, ne-eqb}
 use Rattle.device.specs.declared.Device.{Device}
-use Rattle.device.specs.declared.Refusal.{Refusal}
+use Rattle.events.specs.declared.Refusal.{Refusal}
 use Rattle.image.specs.declared.Loaded.{Loaded}
 use Rattle.image.specs.declared.Loaded.the-variants.{Accepted, Refused}
 use Rattle.image.specs.Image.{imageOf, deviceOf, loadOf, storedOver}

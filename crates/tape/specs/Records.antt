@@ -12,8 +12,8 @@ use Rattle.device.specs.declared.TimerInput.{TimerInput}
 use Rattle.device.specs.declared.TimerInput.the-variants.{Tai, Tbi}
 use Rattle.device.specs.declared.Event.{Event}
 use Rattle.device.specs.declared.Event.the-variants.{Reset, Read, Write, Level, Input, Clocks, Acknowledge, Raise}
-use Rattle.device.specs.declared.Refusal.{Refusal}
-use Rattle.device.specs.declared.Refusal.the-variants.{TapeLength, RecordMark, Kind, Operand, Serial}
+use Rattle.events.specs.declared.Refusal.{Refusal}
+use Rattle.events.specs.declared.Refusal.the-variants.{TapeLength, RecordMark, Kind, Operand, Serial}
 use Rattle.image.specs.Image.{byte}
 use Rattle.tape.specs.declared.Selected.{Selected}
 use Rattle.tape.specs.declared.Selected.the-variants.{Known, SerialPort}

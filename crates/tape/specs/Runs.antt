@@ -6,8 +6,8 @@ use lib.Dec.{leb, eqb}
 use lib.ListN.{length, drop}
 use Rattle.device.specs.declared.Device.{Device}
 use Rattle.device.specs.declared.Event.{Event}
-use Rattle.device.specs.declared.Refusal.{Refusal}
-use Rattle.device.specs.declared.Refusal.the-variants.{TapeLength, AnswerLength}
+use Rattle.events.specs.declared.Refusal.{Refusal}
+use Rattle.events.specs.declared.Refusal.the-variants.{TapeLength, AnswerLength}
 use Rattle.device.specs.Events.{stepOf, numberOf}
 use Rattle.image.specs.Image.{imageOf, deviceOf, loadOf}
 use Rattle.image.specs.declared.Loaded.{Loaded}

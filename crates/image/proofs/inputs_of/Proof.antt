@@ -1,19 +1,18 @@
--- `image::inputs_of` meets its contract: two bits, four cases. Assumes nothing.
-use mathlib.Core.Path.{refl}
+-- `image::inputs_of` meets its contract: the sum of the two bits does not wrap. Assumes nothing.
+use borrow.Author.Needs.{needs}
+use Rattle.flags.proofs.Bits.{bit-at-most}
+use native.Mathlib.Omega.{arith}
 use Rattle.image.proofs.inputs_of.Statement.{statement}
 use Rattle.image.proofs.inputs_of.Tie as tie
 
-returns : tie.Need-returns
-returns c = rw (c .before .if1 .taken, c .if2 .taken) refl
-
-returns-2 : tie.Need-returns-2
-returns-2 c = rw (c .before .if1 .taken, c .if2 .left) refl
-
-returns-3 : tie.Need-returns-3
-returns-3 c = rw (c .before .if1 .left, c .if3 .taken) refl
-
-returns-4 : tie.Need-returns-4
-returns-4 c = rw (c .before .if1 .left, c .if3 .left) refl
+add-result : tie.Need-add-result
+add-result c = let l = c .before .before .args .l in omega (arith, bit-at-most (l .tai) 1 (c .before .bit-value .ensures), bit-at-most (l .tbi) 2 (c .bit-value2 .ensures))
 
 pub inputs-of-spec : {M : Type 1} → statement M
-inputs-of-spec = tie.close (tie.spec returns returns-2 returns-3 returns-4)
+inputs-of-spec =
+    tie.close
+    (tie.spec
+    (λ c κs. search needs)
+    (λ c κs. search needs)
+    add-result
+    (λ c. search needs))

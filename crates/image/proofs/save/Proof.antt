@@ -3,12 +3,12 @@ use borrow.Author.Needs.{needs}
 use Prim.Native.Nat.{ℕ}
 use mathlib.Core.List.{List}
 use mathlib.Core.Bool.{Bool, true, false, cond}
-use mathlib.Core.Path.{_≡_, refl, sym, ap, ap₂, _∙_}
+use mathlib.Core.Path.{_≡_, refl, sym, _∙_}
 use lib.ListN.{length}
 use lib.Dec.{eqb}
 use borrow.Author.Tests.{eq-eqb, ne-eqb, not-true, not-false}
 use Rattle.device.specs.declared.Device.{Device}
-use Rattle.device.specs.declared.Refusal.the-variants.{ImageLength, ImageRule}
+use Rattle.events.specs.declared.Refusal.the-variants.{ImageLength, ImageRule}
 use Rattle.device.specs.Events.{imageRule}
 use Rattle.image.specs.declared.Saved.the-variants.{Written, NotWritten}
 use Rattle.image.specs.Image.{storedOver, savedOf, savedOver}

@@ -40,13 +40,13 @@ use denote.Triple.Walked.{says, Stays, stay-none, walkOf, AllGo, goes-none, Walk
 use denote.Exit.{yes}
 use Rattle.device.specs.Events.{handledOf}
 use Rattle.device.specs.declared.Device.{Device}
-use Rattle.device.specs.declared.Event.{Event}
+use Rattle.events.specs.declared.Event.{Event}
 use Rattle.device.specs.declared.Outcome.{Outcome}
 use Rattle.device.specs.declared.Handled.{Handled}
 use Rattle.device.proofs.Device as D
 use Rattle.device.proofs.Device.Laws as D′
-use Rattle.device.proofs.Event as E
-use Rattle.device.proofs.Event.Laws as E′
+use Rattle.events.proofs.Event as E
+use Rattle.events.proofs.Event.Laws as E′
 use Rattle.device.proofs.Outcome as O
 use Rattle.device.proofs.Outcome.Laws as O′
 use Rattle.device.proofs.Handled as R

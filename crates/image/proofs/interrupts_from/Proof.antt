@@ -1,8 +1,8 @@
--- `image::interrupts_of` meets its contract, register by register. Assumes nothing.
+-- `image::interrupts_from` meets its contract, register by register. Assumes nothing.
 use borrow.Author.Needs.{needs}
-use Rattle.image.specs.Image.{interruptsOf, byte}
-use Rattle.image.proofs.interrupts_of.Statement.{statement}
-use Rattle.image.proofs.interrupts_of.Tie as tie
+use Rattle.image.specs.Image.{interruptsFrom, byte}
+use Rattle.image.proofs.interrupts_from.Statement.{statement}
+use Rattle.image.proofs.interrupts_from.Tie as tie
 
 shared-slice-read-pair : tie.Need-shared-slice-read-pair
 shared-slice-read-pair c = search needs
@@ -44,7 +44,7 @@ shared-slice-read-t23 : tie.Need-shared-slice-read-t23
 shared-slice-read-t23 c = search needs
 
 returns : tie.Need-returns
-unfolding interruptsOf
+unfolding interruptsFrom
 returns c = λ k. record {
   enabled = c .before .before .before .before .before .before .before .before .before .before .pair .ensures k;
   pending = c .before .before .before .before .before .before .before .pair2 .ensures k;
@@ -53,8 +53,8 @@ returns c = λ k. record {
   vector = byte (c .before .before .before .before .before .before .before .before .before .before .before .before .before .before .args .image .now) 13;
 }
 
-pub interrupts-of-spec : {M : Type 1} → statement M
-interrupts-of-spec =
+pub interrupts-from-spec : {M : Type 1} → statement M
+interrupts-from-spec =
     tie.close
     (tie.spec
     shared-slice-read-pair

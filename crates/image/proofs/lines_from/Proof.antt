@@ -1,8 +1,8 @@
--- `image::lines_of` meets its contract, byte by byte. Assumes nothing.
+-- `image::lines_from` meets its contract, byte by byte. Assumes nothing.
 use borrow.Author.Needs.{needs}
-use Rattle.image.specs.Image.{linesOf, byte}
-use Rattle.image.proofs.lines_of.Statement.{statement}
-use Rattle.image.proofs.lines_of.Tie as tie
+use Rattle.image.specs.Image.{linesFrom, byte}
+use Rattle.image.proofs.lines_from.Statement.{statement}
+use Rattle.image.proofs.lines_from.Tie as tie
 
 shared-slice-read-inputs : tie.Need-shared-slice-read-inputs
 shared-slice-read-inputs c = search needs
@@ -26,13 +26,13 @@ bit-at-requires-2 : tie.Need-bit-at-requires-2
 bit-at-requires-2 c κs = search needs
 
 returns : tie.Need-returns
-unfolding linesOf
+unfolding linesFrom
 returns c =
     let b = c .before .before .before .before .before .before .before .before .args .image .now in
     λ k. record { gpdr = byte b 2; aer = byte b 3; ddr = byte b 4; levels = byte b 30; tai = c .before .bit-at .ensures k; tbi = c .bit-at2 .ensures k }
 
-pub lines-of-spec : {M : Type 1} → statement M
-lines-of-spec =
+pub lines-from-spec : {M : Type 1} → statement M
+lines-from-spec =
     tie.close
     (tie.spec
     shared-slice-read-inputs

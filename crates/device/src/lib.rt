@@ -118,7 +118,7 @@ impl Device {
         let l = self.lines;
         let t = self.timers;
         let a = t.a;
-        flags::both(a.counts_events(), l.input_becomes(after, TimerInput::Tai))
+        bits::both(a.counts_events(), l.input_becomes(after, TimerInput::Tai))
     }
 
     fn counts_b(self, after: Lines) -> bool
@@ -127,7 +127,7 @@ impl Device {
         let l = self.lines;
         let t = self.timers;
         let b = t.b;
-        flags::both(b.counts_events(), l.input_becomes(after, TimerInput::Tbi))
+        bits::both(b.counts_events(), l.input_becomes(after, TimerInput::Tbi))
     }
 
     // The signals become those of `after`, by a level event or an AER write.
@@ -314,7 +314,7 @@ impl Device {
     {
         let i = self.interrupts;
         let t = self.timers;
-        flags::both(i.keeps_rule(), t.keeps_rule())
+        bits::both(i.keeps_rule(), t.keeps_rule())
     }
 
     // One event of a device record, or refusal 3 or 7, with the record as it came.

@@ -61,7 +61,7 @@ pub fn is_line(a: u8) -> bool
 pub fn is_serial_channel(a: u8) -> bool
     ensures { λ r. ⌜ r ≡ isSerialChannel a ⌝ }
 {
-    flags::both(9 <= a, a <= 12)
+    bits::both(9 <= a, a <= 12)
 }
 
 // Whether an event's operands are in range.

@@ -12,7 +12,8 @@ use Rattle.events.specs.declared.Refusal.{Refusal}
 use Rattle.events.specs.declared.Refusal.the-variants.{ImageLength, ImageMark, ImageRule}
 use Rattle.device.specs.Events.{imageRule}
 use Rattle.image.specs.declared.Loaded.the-variants.{Accepted, Refused}
-use Rattle.image.specs.Image.{imageBytes, imageMark0, imageMark1, byte, deviceOf, unusedZero, loadOf}
+use Rattle.bits.specs.Bytes.{byte}
+use Rattle.image.specs.Image.{imageBytes, imageMark0, imageMark1, deviceOf, unusedZero, loadOf}
 
 never : {X : Type 0} {r : Refusal} {d : Device} → Refused r ≡ Accepted d → X
 never e = let z : _≡_ {A = ℕ} 0 1 = cc in absurd (omega arith)

@@ -3,8 +3,9 @@ use Prim.Native.Nat.{ℕ, _+_, _*_, _/_, _%_}
 use mathlib.Core.Bool.{Bool, cond, _&&_}
 use mathlib.Core.List.{List, [], _∷_, _++_}
 use lib.Dec.{eqb, ltb}
-use lib.ListN.{length, getD}
-use Rattle.flags.specs.Bits.{bitValue}
+use lib.ListN.{length}
+use Rattle.bits.specs.Bits.{bitValue}
+use Rattle.bits.specs.Bytes.{byte}
 use Rattle.timer.specs.declared.Timer.{Timer}
 use Rattle.interrupts.specs.declared.Half.the-variants.{A, B}
 use Rattle.interrupts.specs.declared.Interrupts.{Interrupts}
@@ -67,9 +68,6 @@ unfoldable pub imageOf : Device → List ℕ
 imageOf d = (imageMark0 ∷ imageMark1 ∷ []) ++ (lineBytes (d .lines) ++ (interruptBytes (d .interrupts) ++ (timerBytes (d .timers) ++ levelBytes (d .lines))))
 
 -- ---- the same parts, read
-abbrev pub byte : List ℕ → ℕ → ℕ
-byte b k = getD b k 0
-
 -- a set of channels from its registers A and B, at byte k and after it
 abbrev pub setFrom : List ℕ → ℕ → ℕ
 setFrom b k = byte b k * 256 + byte b (k + 1)

@@ -11,7 +11,7 @@ ghost use mathlib.Core.Path.{_≡_};
 ghost use Prim.Native.Nat.{_+_, _*_, _<_};
 ghost use lib.ListN.{length};
 ghost use Rattle.interrupts.specs.Channels.{has};
-ghost use Rattle.flags.specs.Bits.{bitValue};
+ghost use Rattle.bits.specs.Bits.{bitValue};
 ghost use Rattle.image.specs.Image.{imageBytes, imageOf, linesFrom, interruptsFrom, timersFrom, timerFrom, unusedZero, loadOf, storedOver, savedOf, savedOver};
 
 pub const IMAGE_BYTES: usize = 32;
@@ -192,7 +192,7 @@ fn bytes_of(d: Device) -> [u8; IMAGE_BYTES]
 fn inputs_of(l: Lines) -> u8
     ensures { λ r. ⌜ r ≡ bitValue (l .tai) 1 + bitValue (l .tbi) 2 ⌝ }
 {
-    flags::bit_value(l.tai, 1) + flags::bit_value(l.tbi, 2)
+    bits::bit_value(l.tai, 1) + bits::bit_value(l.tbi, 2)
 }
 
 // Writes a device over a buffer of an image's length; leaves any other buffer as it came.

@@ -208,8 +208,8 @@ impl Lines {
         ensures { λ r. ⌜ r ≡ raisedBy (signalRaises (ofInputs a b) self after) ⌝ }
     {
         let by_lines = channels_of(self.raising(after, a, b));
-        let ends_a = flags::both(a, self.input_ceases(after, TimerInput::Tai));
-        let ends_b = flags::both(b, self.input_ceases(after, TimerInput::Tbi));
+        let ends_a = bits::both(a, self.input_ceases(after, TimerInput::Tai));
+        let ends_b = bits::both(b, self.input_ceases(after, TimerInput::Tbi));
         let by_tai = interrupts::only_if(ends_a, interrupts::channel_of(Line(4)));
         let by_tbi = interrupts::only_if(ends_b, interrupts::channel_of(Line(3)));
         by_lines | (by_tai | by_tbi)

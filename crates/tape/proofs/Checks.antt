@@ -1,7 +1,7 @@
 -- The check of a whole tape, case by case: refusal 4, 5 to 8, 9, or none. Assumes nothing.
 use Prim.Native.Nat.{ℕ, zero, suc, _+_, _*_, _%_, _≤_, _<_}
-use mathlib.Core.Path.{_≡_, refl, sym, ap, ap₂, _∙_}
-use mathlib.Core.Bool.{Bool, true, false, cond, _&&_, true≢false, false≢true}
+use mathlib.Core.Path.{_≡_, refl, sym, ap, _∙_}
+use mathlib.Core.Bool.{Bool, true, false, cond, _&&_}
 use mathlib.Core.List.{List}
 use native.Mathlib.Omega.{arith}
 use lib.Dec.{eqb, leb}
@@ -9,14 +9,15 @@ use lib.ListN.{length}
 use borrow.Author.Tests.{eq-eqb, ne-eqb, le-leb, lt-leb, leb-true, eqb-true}
 use Rattle.events.specs.declared.Refusal.{Refusal}
 use Rattle.events.specs.declared.Refusal.the-variants.{ImageLength, ImageMark, ImageRule, TapeLength, RecordMark, Kind, Operand, Serial, AnswerLength}
-use Rattle.device.specs.Events.{numberOf}
-use Rattle.tape.specs.declared.Decoded.{Decoded}
-use Rattle.tape.specs.declared.Decoded.the-variants.{Valid, Invalid}
+use Rattle.record.specs.declared.Decoded.{Decoded}
+use Rattle.record.specs.declared.Decoded.the-variants.{Valid, Invalid}
 use Rattle.tape.specs.declared.Checked.{Checked}
 use Rattle.tape.specs.declared.Checked.the-variants.{Fine, Bad}
-use Rattle.tape.specs.Records.{recordBytes, records, decoded, firstBad·at, firstBad}
-use Rattle.tape.specs.Runs.{tapeMost, fitting, code, afterRecords, tapeResult}
-use Rattle.tape.specs.Answers.{answerBytes}
+use Rattle.record.specs.Records.{recordBytes}
+use Rattle.tape.specs.Tapes.{records, decoded, firstBad·at, firstBad}
+use Rattle.tape.specs.Tapes.{tapeMost, fitting}
+use Rattle.tape.specs.Runs.{code, afterRecords, tapeResult}
+use Rattle.answer.specs.Answers.{answerBytes}
 
 -- a refusal's number is not 0
 pub code-above : (r : Refusal) (i : ℕ) → code r i ≡ 0 → ⊥

@@ -1,19 +1,18 @@
 -- The run's loop: what the records done so far and those left make together is the whole run. Assumes nothing.
-use Prim.Native.Nat.{ℕ, zero, suc, _+_, _-_, _*_, _≤_, _<_}
+use Prim.Native.Nat.{ℕ, _+_, _-_, _*_, _≤_, _<_}
 use mathlib.Core.Path.{_≡_, refl, sym, ap, ap₂, _∙_}
 use mathlib.Core.List.{List, [], _∷_, _++_, append-assoc, append-nil}
 use native.Mathlib.Omega.{arith}
-use native.Mathlib.Nat.{add-zero}
 use lib.ListN.{length, take, drop, length-append, length-drop, take-append-drop}
 use lib.Seq.{length-take-le, take-at, drop-at, drop-drop}
 use Rattle.device.specs.declared.Device.{Device}
-use Rattle.device.specs.declared.Event.{Event}
-use Rattle.device.specs.declared.Stepped.{Stepped}
+use Rattle.events.specs.declared.Event.{Event}
 use Rattle.device.specs.Events.{stepOf}
-use Rattle.tape.specs.declared.Decoded.the-variants.{Valid, Invalid}
+use Rattle.record.specs.declared.Decoded.the-variants.{Valid}
 use Rattle.tape.specs.declared.Checked.the-variants.{Fine}
-use Rattle.tape.specs.Records.{recordBytes, decoded, firstBad, events}
-use Rattle.tape.specs.Answers.{answerBytes, answerOf}
+use Rattle.record.specs.Records.{recordBytes}
+use Rattle.tape.specs.Tapes.{decoded, firstBad, events}
+use Rattle.answer.specs.Answers.{answerBytes, answerOf}
 use Rattle.tape.specs.Runs.{runOf, answersOf}
 use Rattle.tape.proofs.Tapes.{check-valid, event-valid, events-none}
 

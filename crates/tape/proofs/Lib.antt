@@ -1,6 +1,4 @@
 -- The laws of a tape's records, of its check, and of a run over it.
-pub mod Verdicts
-pub mod Meanings
 pub mod Tapes
 pub mod Checks
 pub mod Stores

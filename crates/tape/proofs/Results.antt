@@ -1,7 +1,7 @@
 -- The whole call: refused, all is as it came; done, the image and the answers are the run's. Assumes nothing.
 use Prim.Native.Nat.{ℕ, _+_, _*_}
 use mathlib.Core.Path.{_≡_, refl, sym, ap, ap₂, _∙_}
-use mathlib.Core.Bool.{Bool, true, false, cond}
+use mathlib.Core.Bool.{false}
 use mathlib.Core.List.{List, _++_}
 use native.Mathlib.Nat.{mul-comm}
 use lib.Dec.{eqb}
@@ -11,11 +11,11 @@ use Rattle.device.specs.declared.Device.{Device}
 use Rattle.events.specs.declared.Refusal.{Refusal}
 use Rattle.image.specs.declared.Loaded.{Loaded}
 use Rattle.image.specs.declared.Loaded.the-variants.{Accepted, Refused}
-use Rattle.image.specs.Image.{imageOf, deviceOf, loadOf, storedOver}
+use Rattle.image.specs.Image.{imageOf, loadOf, storedOver}
 use Rattle.image.proofs.Loads.{Read, read}
-use Rattle.tape.specs.Records.{records, eventsOf}
+use Rattle.tape.specs.Tapes.{records, eventsOf}
 use Rattle.tape.specs.Runs.{runOf, answersOf, code, tapeResult, afterImage, resultOf, imageAfter, answersAfter}
-use Rattle.tape.specs.Answers.{answerBytes}
+use Rattle.answer.specs.Answers.{answerBytes}
 
 module _ (image tape answers : List ℕ) where
   pub by-image : (r : Refusal) → loadOf image ≡ Refused r → resultOf image tape answers ≡ code r 0

@@ -1,17 +1,16 @@
 -- One record more or less of a tape: what the check and the run do with it. Assumes nothing.
-use Prim.Native.Nat.{ℕ, zero, suc, _+_, _-_, _*_, _≤_, _<_}
-use mathlib.Core.Path.{_≡_, refl, sym, ap, ap₂, _∙_}
+use Prim.Native.Nat.{ℕ, suc, _+_, _-_, _*_, _<_}
+use mathlib.Core.Path.{_≡_, refl, sym, ap, _∙_}
 use mathlib.Core.List.{List, [], _∷_}
 use native.Mathlib.Omega.{arith}
-use lib.Arith.{lt-of-le-ne}
-use Rattle.device.specs.declared.Event.{Event}
+use Rattle.events.specs.declared.Event.{Event}
 use Rattle.events.specs.declared.Refusal.{Refusal}
-use Rattle.tape.specs.declared.Decoded.{Decoded}
-use Rattle.tape.specs.declared.Decoded.the-variants.{Valid, Invalid}
-use Rattle.tape.specs.declared.Checked.{Checked}
+use Rattle.record.specs.declared.Decoded.{Decoded}
+use Rattle.record.specs.declared.Decoded.the-variants.{Valid, Invalid}
 use Rattle.tape.specs.declared.Checked.the-variants.{Fine, Bad}
-use Rattle.tape.specs.Records.{recordBytes, decoded, firstBad·at, firstBad, events·at, events}
-use Rattle.tape.proofs.Verdicts.{Holds}
+use Rattle.record.specs.Records.{recordBytes}
+use Rattle.tape.specs.Tapes.{decoded, firstBad·at, firstBad, events·at, events}
+use Rattle.record.proofs.Verdicts.{Holds}
 
 module _ (tape : List ℕ) (i n : ℕ) (h : i < n) where
   more : n - i ≡ suc (n - (i + 1))
@@ -49,7 +48,3 @@ check-none tape i = refl
 pub events-none : (tape : List ℕ) (i : ℕ) → events tape i 0 ≡ []
 unfolding events
 events-none tape i = refl
-
--- ---- a number that is at least k and not k, as the rest of a `match` has it
-pub past : {n k : ℕ} → k ≤ n → (n ≡ k → ⊥) → suc k ≤ n
-past h f = lt-of-le-ne h (λ e. f (sym e))

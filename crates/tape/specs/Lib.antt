@@ -1,4 +1,3 @@
--- The tape of events, its answers, the refusals in their order, and a whole run.
-pub mod Records
-pub mod Answers
+-- The tape of events, the refusals in their order, and a whole run.
+pub mod Tapes
 pub mod Runs

@@ -1,21 +1,22 @@
 -- Document 01, "Tape and answers": a whole run, and the refusals in their order.
-use Prim.Native.Nat.{ℕ, _+_, _*_, _%_}
-use mathlib.Core.Bool.{Bool, true, false, cond, _&&_}
+use Prim.Native.Nat.{ℕ, _+_, _*_}
+use mathlib.Core.Bool.{cond}
 use mathlib.Core.List.{List, [], _∷_, _++_}
 use lib.Dec.{leb, eqb}
 use lib.ListN.{length, drop}
 use Rattle.device.specs.declared.Device.{Device}
-use Rattle.device.specs.declared.Event.{Event}
+use Rattle.events.specs.declared.Event.{Event}
 use Rattle.events.specs.declared.Refusal.{Refusal}
 use Rattle.events.specs.declared.Refusal.the-variants.{TapeLength, AnswerLength}
-use Rattle.device.specs.Events.{stepOf, numberOf}
+use Rattle.events.specs.Numbers.{numberOf}
+use Rattle.device.specs.Events.{stepOf}
 use Rattle.image.specs.Image.{imageOf, deviceOf, loadOf}
 use Rattle.image.specs.declared.Loaded.{Loaded}
 use Rattle.image.specs.declared.Loaded.the-variants.{Accepted, Refused}
 use Rattle.tape.specs.declared.Checked.{Checked}
 use Rattle.tape.specs.declared.Checked.the-variants.{Fine, Bad}
-use Rattle.tape.specs.Records.{recordBytes, records, firstBad, eventsOf}
-use Rattle.tape.specs.Answers.{answerBytes, answerOf}
+use Rattle.answer.specs.Answers.{answerBytes, answerOf}
+use Rattle.tape.specs.Tapes.{fitting, records, firstBad, eventsOf}
 
 -- ---- events one after the other
 unfoldable pub runOf : Device → List Event → Device
@@ -28,13 +29,6 @@ answersOf d [] = []
 answersOf d (e ∷ es) = answerOf (stepOf d e) ++ answersOf (stepOf d e .device) es
 
 -- ---- the refusals
--- "4: tape length not a multiple of 8, or above 4,096"
-abbrev pub tapeMost : ℕ
-tapeMost = 4096
-
-unfoldable pub fitting : List ℕ → Bool
-fitting tape = eqb (length tape % recordBytes) 0 && leb (length tape) tapeMost
-
 -- "The C call returns 0, or 256 × index of the bad record (0 for 1 to 4 and 9) + number."
 abbrev pub code : Refusal → ℕ → ℕ
 code r i = 256 * i + numberOf r

@@ -2,7 +2,7 @@
 use Prim.Native.Nat.{ℕ, _+_, _*_, _/_, _%_}
 use mathlib.Core.Bool.{Bool, false, _&&_}
 use lib.Dec.{leb}
-use Rattle.flags.specs.Bits.{bitValue}
+use Rattle.bits.specs.Bits.{bitValue}
 use Rattle.timer.specs.declared.Timer.{Timer}
 use Rattle.timer.specs.Timers.{controlled, reloadWritten, resetTimer, freshTimer, positionRule}
 use Rattle.interrupts.specs.Channels.{has}

@@ -105,7 +105,7 @@ impl Timeouts {
 fn keeps_rule(t: Timer, most: u8) -> bool
     ensures { λ r. ⌜ r ≡ timerRule most t ⌝ }
 {
-    flags::both(t.mode <= most, t.keeps_rule())
+    bits::both(t.mode <= most, t.keeps_rule())
 }
 
 impl Timers {
@@ -176,8 +176,8 @@ impl Timers {
         let of_a = self.a;
         let of_b = self.b;
         let n = Timeouts {
-            a: once(flags::both(a, of_a.is_due())),
-            b: once(flags::both(b, of_b.is_due())),
+            a: once(bits::both(a, of_a.is_due())),
+            b: once(bits::both(b, of_b.is_due())),
             c: 0,
             d: 0,
         };
@@ -259,10 +259,10 @@ impl Timers {
     pub fn outputs(self) -> u8
         ensures { λ r. ⌜ r ≡ outputsOf self ⌝ }
     {
-        flags::bit_value(self.a.output, 1)
-            + flags::bit_value(self.b.output, 2)
-            + flags::bit_value(self.c.output, 4)
-            + flags::bit_value(self.d.output, 8)
+        bits::bit_value(self.a.output, 1)
+            + bits::bit_value(self.b.output, 2)
+            + bits::bit_value(self.c.output, 4)
+            + bits::bit_value(self.d.output, 8)
     }
 
     // The timers' part of the image rule.
@@ -273,8 +273,8 @@ impl Timers {
         let b = self.b;
         let c = self.c;
         let d = self.d;
-        let ab = flags::both(keeps_rule(a, MOST_AB), keeps_rule(b, MOST_AB));
-        let cd = flags::both(keeps_rule(c, MOST_CD), keeps_rule(d, MOST_CD));
-        flags::both(ab, cd)
+        let ab = bits::both(keeps_rule(a, MOST_AB), keeps_rule(b, MOST_AB));
+        let cd = bits::both(keeps_rule(c, MOST_CD), keeps_rule(d, MOST_CD));
+        bits::both(ab, cd)
     }
 }

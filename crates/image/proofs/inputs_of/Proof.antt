@@ -1,6 +1,6 @@
 -- `image::inputs_of` meets its contract: the sum of the two bits does not wrap. Assumes nothing.
 use borrow.Author.Needs.{needs}
-use Rattle.flags.proofs.Bits.{bit-at-most}
+use Rattle.bits.proofs.Bits.{bit-at-most}
 use native.Mathlib.Omega.{arith}
 use Rattle.image.proofs.inputs_of.Statement.{statement}
 use Rattle.image.proofs.inputs_of.Tie as tie

@@ -1,6 +1,7 @@
 -- `image::interrupts_from` meets its contract, register by register. Assumes nothing.
 use borrow.Author.Needs.{needs}
-use Rattle.image.specs.Image.{interruptsFrom, byte}
+use Rattle.bits.specs.Bytes.{byte}
+use Rattle.image.specs.Image.{interruptsFrom}
 use Rattle.image.proofs.interrupts_from.Statement.{statement}
 use Rattle.image.proofs.interrupts_from.Tie as tie
 

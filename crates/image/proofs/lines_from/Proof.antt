@@ -1,6 +1,7 @@
 -- `image::lines_from` meets its contract, byte by byte. Assumes nothing.
 use borrow.Author.Needs.{needs}
-use Rattle.image.specs.Image.{linesFrom, byte}
+use Rattle.bits.specs.Bytes.{byte}
+use Rattle.image.specs.Image.{linesFrom}
 use Rattle.image.proofs.lines_from.Statement.{statement}
 use Rattle.image.proofs.lines_from.Tie as tie
 

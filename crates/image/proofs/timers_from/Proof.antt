@@ -2,7 +2,8 @@
 use borrow.Author.Needs.{needs}
 use Prim.Native.Nat.{_/_, _%_}
 use mathlib.Core.Path.{ap, _∙_}
-use Rattle.image.specs.Image.{timersFrom, timerFrom, byte}
+use Rattle.bits.specs.Bytes.{byte}
+use Rattle.image.specs.Image.{timersFrom, timerFrom}
 use Rattle.image.proofs.timers_from.Statement.{statement}
 use Rattle.image.proofs.timers_from.Tie as tie
 

@@ -1,8 +1,7 @@
 -- `tape::check` meets its contract, refusal by refusal. Assumes nothing.
-use mathlib.Core.Path.{_≡_, refl, sym, ap, ap₂, _∙_}
+use mathlib.Core.Path.{sym, _∙_}
 use native.Mathlib.Omega.{arith}
 use borrow.Author.Needs.{needs}
-use Rattle.tape.specs.Runs.{code}
 use Rattle.tape.proofs.Checks.{index-below, uneven, too-long, bad, roomy, cramped}
 use Rattle.tape.proofs.check.Statement.{statement}
 use Rattle.tape.proofs.check.Tie as tie

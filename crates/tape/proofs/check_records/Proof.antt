@@ -1,12 +1,12 @@
 -- `tape::check_records` meets its contract. The loop's invariant: the check of all is that of the records from i on.
 -- The measure is how many are left. Assumes nothing.
-use Prim.Native.Nat.{ℕ, _-_, _*_, _≤_}
-use mathlib.Core.Path.{_≡_, refl, sym, ap, ap₂, _∙_}
+use Prim.Native.Nat.{_-_, _≤_}
+use mathlib.Core.Path.{_≡_, sym, ap, _∙_}
 use native.Mathlib.Omega.{arith}
 use borrow.Author.Needs.{needs}
-use Rattle.tape.specs.Records.{firstBad}
+use Rattle.tape.specs.Tapes.{firstBad}
 use Rattle.tape.proofs.Tapes.{check-bad, check-valid, check-none}
-use Rattle.tape.proofs.Verdicts.{Holds, sound, wrong}
+use Rattle.record.proofs.Verdicts.{sound, wrong}
 use Rattle.tape.proofs.check_records.Statement.{statement}
 use Rattle.tape.proofs.check_records.Tie as tie
 

@@ -1,11 +1,10 @@
 -- `tape::run` meets its contract: refused, nothing is altered; done, the run's image and answers. Assumes nothing.
-use Prim.Native.Nat.{ℕ, _*_, _≤_}
-use mathlib.Core.Path.{_≡_, refl, sym, ap, ap₂, _∙_}
+use mathlib.Core.Path.{sym, ap, _∙_}
 use native.Mathlib.Omega.{arith}
 use borrow.Author.Needs.{needs}
 use lib.ListN.{length}
 use Rattle.image.specs.Image.{storedOver}
-use Rattle.tape.proofs.Checks.{Passed, passed, code-above}
+use Rattle.tape.proofs.Checks.{passed, code-above}
 use Rattle.tape.proofs.Results.{by-image, by-tape, refused, done}
 use Rattle.tape.proofs.run.Statement.{statement}
 use Rattle.tape.proofs.run.Tie as tie

@@ -2,20 +2,20 @@
 -- The measure is how many records are left. Assumes nothing.
 use Prim.Native.Nat.{ℕ, _+_, _-_, _*_, _≤_, _<_}
 use mathlib.Core.List.{List, _++_}
-use mathlib.Core.Path.{_≡_, refl, sym, ap, ap₂, _∙_}
+use mathlib.Core.Path.{_≡_, ap, _∙_}
 use native.Mathlib.Omega.{arith}
 use borrow.Author.Needs.{needs}
 use lib.ListN.{length, take, drop}
 use Rattle.device.specs.declared.Device.{Device}
-use Rattle.device.specs.declared.Event.{Event}
+use Rattle.events.specs.declared.Event.{Event}
 use Rattle.device.specs.declared.Stepped.{Stepped}
 use Rattle.device.specs.Events.{stepOf}
-use Rattle.tape.specs.declared.Decoded.the-variants.{Valid}
-use Rattle.tape.specs.Records.{recordBytes, decoded}
-use Rattle.tape.specs.Answers.{answerBytes, answerOf}
+use Rattle.record.specs.declared.Decoded.the-variants.{Valid}
+use Rattle.record.specs.Records.{recordBytes}
+use Rattle.tape.specs.Tapes.{decoded}
+use Rattle.answer.specs.Answers.{answerBytes, answerOf}
 use Rattle.tape.proofs.Going.{Going, going-begins, going-on, going-ends}
 use Rattle.tape.proofs.Tapes.{check-fine}
-use Rattle.tape.proofs.Verdicts.{Holds}
 use Rattle.tape.proofs.run_records.Statement.{statement}
 use Rattle.tape.proofs.run_records.Tie as tie
 

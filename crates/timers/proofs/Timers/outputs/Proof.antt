@@ -3,7 +3,7 @@ use mathlib.Core.Path.{ap₂}
 use borrow.Author.Needs.{needs}
 use Prim.Native.Nat.{_+_}
 use native.Mathlib.Omega.{arith}
-use Rattle.flags.proofs.Bits.{bit-at-most}
+use Rattle.bits.proofs.Bits.{bit-at-most}
 use Rattle.timers.specs.Registers.{outputsOf}
 use Rattle.timers.proofs.Timers.outputs.Statement.{statement}
 use Rattle.timers.proofs.Timers.outputs.Tie as tie

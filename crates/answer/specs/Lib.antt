@@ -1,0 +1,2 @@
+-- The bytes of an answer.
+pub mod Answers

@@ -1,2 +1,0 @@
--- A truth value as a bit.
-pub mod Bits

@@ -1,0 +1,3 @@
+-- The laws of one record that callers use.
+pub mod Verdicts
+pub mod Taken

@@ -1,0 +1,16 @@
+-- `record::write_select` meets its contract. Assumes nothing.
+use borrow.Author.Needs.{needs}
+use Rattle.record.specs.Records.{writeSelect}
+use Rattle.record.proofs.write_select.Statement.{statement}
+use Rattle.record.proofs.write_select.Tie as tie
+
+returns : tie.Need-returns
+unfolding writeSelect
+returns c = c .register-of .ensures
+
+pub write-select-spec : {M : Type 1} → statement M
+write-select-spec =
+    tie.close
+    (tie.spec
+    (λ c κs. search needs)
+    returns)

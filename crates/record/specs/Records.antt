@@ -1,0 +1,114 @@
+-- Document 01, "Tape and answers": what a record means, an event or refusal 5 to 8.
+use Prim.Native.Nat.{ℕ}
+use mathlib.Core.Bool.{Bool, cond, _&&_}
+use mathlib.Core.List.{List, [], _∷_}
+use lib.Dec.{leb, eqb}
+use lib.ListN.{getD}
+use Rattle.bits.specs.Bytes.{number}
+use Rattle.interrupts.specs.declared.Half.the-variants.{A, B}
+use Rattle.interrupts.specs.declared.InterruptRegister.the-variants.{Ier, Ipr, Isr, Imr, Vr}
+use Rattle.interrupts.specs.Channels.{line, channel}
+use Rattle.timers.specs.declared.TimerRegister.the-variants.{Tacr, Tbcr, Tcdcr, Tadr, Tbdr, Tcdr, Tddr}
+use Rattle.lines.specs.declared.LineRegister.the-variants.{Gpdr, Aer, Ddr}
+use Rattle.lines.specs.declared.TimerInput.{TimerInput}
+use Rattle.lines.specs.declared.TimerInput.the-variants.{Tai, Tbi}
+use Rattle.lines.specs.Registers.{isLine}
+use Rattle.events.specs.declared.Register.the-variants.{OfLines, OfInterrupts, OfTimers}
+use Rattle.events.specs.declared.Event.the-variants.{Reset, Read, Write, Level, Input, Clocks, Acknowledge, Raise}
+use Rattle.events.specs.declared.Refusal.the-variants.{RecordMark, Kind, Operand, Serial}
+use Rattle.events.specs.Ranges.{isSerialChannel}
+use Rattle.record.specs.declared.Raw.{Raw}
+use Rattle.record.specs.declared.Selected.{Selected}
+use Rattle.record.specs.declared.Selected.the-variants.{Known, SerialPort}
+use Rattle.record.specs.declared.Decoded.{Decoded}
+use Rattle.record.specs.declared.Decoded.the-variants.{Valid, Invalid}
+
+-- "A record is 8 bytes: mark 4D 45, kind, a, then n in four bytes, high byte first."
+abbrev pub recordBytes : ℕ
+recordBytes = 8
+
+abbrev pub recordMark0 : ℕ
+recordMark0 = 0x4D
+
+abbrev pub recordMark1 : ℕ
+recordMark1 = 0x45
+
+-- ---- register selects
+-- "0 GPDR, 1 AER, 2 DDR, 3/4 IERA/IERB, 5/6 IPRA/IPRB, 7/8 ISRA/ISRB, 9/10 IMRA/IMRB, 11 VR, 12 TACR, 13 TBCR, 14 TCDCR, 15 to 18 TADR to TDDR"
+abbrev pub registers : List Selected
+registers =
+    Known (OfLines Gpdr)
+    ∷ Known (OfLines Aer)
+    ∷ Known (OfLines Ddr)
+    ∷ Known (OfInterrupts (Ier A))
+    ∷ Known (OfInterrupts (Ier B))
+    ∷ Known (OfInterrupts (Ipr A))
+    ∷ Known (OfInterrupts (Ipr B))
+    ∷ Known (OfInterrupts (Isr A))
+    ∷ Known (OfInterrupts (Isr B))
+    ∷ Known (OfInterrupts (Imr A))
+    ∷ Known (OfInterrupts (Imr B))
+    ∷ Known (OfInterrupts Vr)
+    ∷ Known (OfTimers Tacr)
+    ∷ Known (OfTimers Tbcr)
+    ∷ Known (OfTimers Tcdcr)
+    ∷ Known (OfTimers Tadr)
+    ∷ Known (OfTimers Tbdr)
+    ∷ Known (OfTimers Tcdr)
+    ∷ Known (OfTimers Tddr)
+    ∷ []
+
+-- the register of a select; "19 SCR, 20 UCR, 21 RSR, 22 TSR, 23 UDR" are the serial port's
+unfoldable pub registerOf : ℕ → Selected
+registerOf rs = getD registers rs SerialPort
+
+-- what a read selects, and what a write does: the same, until the serial port's registers come in one by one
+unfoldable pub readSelect : ℕ → Selected
+readSelect rs = registerOf rs
+
+unfoldable pub writeSelect : ℕ → Selected
+writeSelect rs = registerOf rs
+
+-- "8: read or write with rs 19 to 23"
+abbrev pub reading : Selected → Decoded
+reading (Known r) = Valid (Read r)
+reading SerialPort = Invalid Serial
+
+abbrev pub writing : Selected → ℕ → Decoded
+writing (Known r) v = Valid (Write r v)
+writing SerialPort v = Invalid Serial
+
+-- ---- kinds and operands
+-- "input a (0 TAI, 1 TBI)"
+abbrev pub inputOf : ℕ → TimerInput
+inputOf a = cond (eqb a 0) Tai Tbi
+
+-- "7: operand out of range": the event, if its operands are in range
+abbrev pub ifInRange : Bool → Decoded → Decoded
+ifInRange t e = cond t e (Invalid Operand)
+
+-- "Kinds: 0 reset; 1 read rs a; 2 write rs a, n at most 255; 3 line a (0–7) to level n (0, 1); 4 input a (0 TAI, 1 TBI) to level n; 5 n clocks, any n; 6 acknowledge, a is 1 if IEI is asserted, else 0; 7 raise channel a (9–12). An operand not named is 0."
+abbrev pub kinds : ℕ → ℕ → List Decoded
+kinds a n =
+    ifInRange (eqb a 0 && eqb n 0) (Valid Reset)
+    ∷ ifInRange (leb a 23 && eqb n 0) (reading (readSelect a))
+    ∷ ifInRange (leb a 23 && leb n 255) (writing (writeSelect a) n)
+    ∷ ifInRange (isLine a && leb n 1) (Valid (Level (line a) (eqb n 1)))
+    ∷ ifInRange (leb a 1 && leb n 1) (Valid (Input (inputOf a) (eqb n 1)))
+    ∷ ifInRange (eqb a 0) (Valid (Clocks n))
+    ∷ ifInRange (leb a 1 && eqb n 0) (Valid (Acknowledge (eqb a 1)))
+    ∷ ifInRange (isSerialChannel a && eqb n 0) (Valid (Raise (channel a)))
+    ∷ []
+
+-- "6: kind above 7"
+unfoldable pub eventOf : ℕ → ℕ → ℕ → Decoded
+eventOf kind a n = getD (kinds a n) kind (Invalid Kind)
+
+-- ---- a record
+-- n, in four bytes, high byte first
+abbrev pub operand : Raw → ℕ
+operand r = number (r .n3) (r .n2) (r .n1) (r .n0)
+
+-- "5: record mark wrong" first
+unfoldable pub meant : Raw → Decoded
+meant r = cond (eqb (r .mark0) recordMark0 && eqb (r .mark1) recordMark1) (eventOf (r .kind) (r .a) (operand r)) (Invalid RecordMark)

@@ -1,0 +1,34 @@
+-- What the run takes of a record that the check has let pass, without looking at it whole again: its kind, its a and the lowest byte of n decide. Of such a record it is the very event that the record means (proofs/Taken.antt: taken-is-meant).
+use mathlib.Core.List.{List, [], _∷_}
+use lib.Dec.{eqb}
+use lib.ListN.{getD}
+use Rattle.interrupts.specs.Channels.{line, channel}
+use Rattle.lines.specs.declared.LineRegister.the-variants.{Gpdr}
+use Rattle.events.specs.declared.Register.{Register}
+use Rattle.events.specs.declared.Register.the-variants.{OfLines}
+use Rattle.events.specs.declared.Event.{Event}
+use Rattle.events.specs.declared.Event.the-variants.{Reset, Read, Write, Level, Input, Clocks, Acknowledge, Raise}
+use Rattle.record.specs.declared.Raw.{Raw}
+use Rattle.record.specs.declared.Selected.{Selected}
+use Rattle.record.specs.declared.Selected.the-variants.{Known, SerialPort}
+use Rattle.record.specs.Records.{readSelect, writeSelect, inputOf, operand}
+
+-- the register that is known; of the serial port, which the check refuses, the first
+abbrev pub knownOf : Selected → Register
+knownOf (Known r) = r
+knownOf SerialPort = OfLines Gpdr
+
+-- by kinds 0 to 6, and any other as 7
+abbrev pub takenAs : Raw → List Event
+takenAs r =
+    Reset
+    ∷ Read (knownOf (readSelect (r .a)))
+    ∷ Write (knownOf (writeSelect (r .a))) (r .n0)
+    ∷ Level (line (r .a)) (eqb (r .n0) 1)
+    ∷ Input (inputOf (r .a)) (eqb (r .n0) 1)
+    ∷ Clocks (operand r)
+    ∷ Acknowledge (eqb (r .a) 1)
+    ∷ []
+
+unfoldable pub taken : Raw → Event
+taken r = getD (takenAs r) (r .kind) (Raise (channel (r .a)))

@@ -1,0 +1,195 @@
+// One record of a tape, by value: what the check finds of it, and the event that the run takes of it.
+// The rules stand in specs/Records.antt. Every function is total.
+use events::Event;
+use events::Refusal;
+use events::Register;
+use interrupts::Channel;
+use interrupts::Half;
+use interrupts::InterruptRegister;
+use interrupts::Line;
+use lines::LineRegister;
+use lines::TimerInput;
+use timers::TimerRegister;
+ghost use mathlib.Core.Path.{_≡_};
+ghost use mathlib.Core.Bool.{cond};
+ghost use Rattle.record.specs.Records.{registerOf, readSelect, writeSelect, reading, inputOf, eventOf, meant};
+ghost use Rattle.record.specs.Taken.{knownOf, taken};
+ghost use Rattle.record.specs.Private.{verdictOf};
+
+pub const RECORD_BYTES: usize = 8;
+
+const MARK_0: u8 = 77;
+
+const MARK_1: u8 = 69;
+
+// A record's eight bytes; n3 is the high byte of n.
+pub struct Raw {
+    pub mark0: u8,
+    pub mark1: u8,
+    pub kind: u8,
+    pub a: u8,
+    pub n3: u8,
+    pub n2: u8,
+    pub n1: u8,
+    pub n0: u8,
+}
+
+// What a register select names.
+pub enum Selected {
+    Known(Register),
+    SerialPort,
+}
+
+// What a record means.
+pub enum Decoded {
+    Valid(Event),
+    Invalid(Refusal),
+}
+
+// What the check finds of a record.
+pub enum Verdict {
+    Sound,
+    Wrong(Refusal),
+}
+
+// ---- register selects
+
+fn register_of(rs: u8) -> Selected
+    ensures { λ r. ⌜ r ≡ registerOf rs ⌝ }
+{
+    match rs {
+        0 => Selected::Known(Register::OfLines(LineRegister::Gpdr)),
+        1 => Selected::Known(Register::OfLines(LineRegister::Aer)),
+        2 => Selected::Known(Register::OfLines(LineRegister::Ddr)),
+        3 => Selected::Known(Register::OfInterrupts(InterruptRegister::Ier(Half::A))),
+        4 => Selected::Known(Register::OfInterrupts(InterruptRegister::Ier(Half::B))),
+        5 => Selected::Known(Register::OfInterrupts(InterruptRegister::Ipr(Half::A))),
+        6 => Selected::Known(Register::OfInterrupts(InterruptRegister::Ipr(Half::B))),
+        7 => Selected::Known(Register::OfInterrupts(InterruptRegister::Isr(Half::A))),
+        8 => Selected::Known(Register::OfInterrupts(InterruptRegister::Isr(Half::B))),
+        9 => Selected::Known(Register::OfInterrupts(InterruptRegister::Imr(Half::A))),
+        10 => Selected::Known(Register::OfInterrupts(InterruptRegister::Imr(Half::B))),
+        11 => Selected::Known(Register::OfInterrupts(InterruptRegister::Vr)),
+        12 => Selected::Known(Register::OfTimers(TimerRegister::Tacr)),
+        13 => Selected::Known(Register::OfTimers(TimerRegister::Tbcr)),
+        14 => Selected::Known(Register::OfTimers(TimerRegister::Tcdcr)),
+        15 => Selected::Known(Register::OfTimers(TimerRegister::Tadr)),
+        16 => Selected::Known(Register::OfTimers(TimerRegister::Tbdr)),
+        17 => Selected::Known(Register::OfTimers(TimerRegister::Tcdr)),
+        18 => Selected::Known(Register::OfTimers(TimerRegister::Tddr)),
+        _ => Selected::SerialPort,
+    }
+}
+
+// What a read selects.
+pub fn read_select(rs: u8) -> Selected
+    ensures { λ r. ⌜ r ≡ readSelect rs ⌝ }
+{
+    register_of(rs)
+}
+
+// What a write selects.
+pub fn write_select(rs: u8) -> Selected
+    ensures { λ r. ⌜ r ≡ writeSelect rs ⌝ }
+{
+    register_of(rs)
+}
+
+// The register of a select that the check has let pass.
+fn known(s: Selected) -> Register
+    ensures { λ r. ⌜ r ≡ knownOf s ⌝ }
+{
+    match s {
+        Selected::Known(r) => r,
+        Selected::SerialPort => Register::OfLines(LineRegister::Gpdr),
+    }
+}
+
+// The input of number a, 0 or 1.
+fn input_of(a: u8) -> TimerInput
+    ensures { λ r. ⌜ r ≡ inputOf a ⌝ }
+{
+    if a == 0 {
+        return TimerInput::Tai;
+    }
+    TimerInput::Tbi
+}
+
+// ---- the check of one record
+
+// Refusal 7 unless the operands are in range, then what else is found.
+fn in_range(t: bool, v: Verdict) -> Verdict
+    ensures { λ r. ⌜ r ≡ cond t v (Verdict.Wrong Refusal.Operand) ⌝ }
+{
+    if t {
+        return v;
+    }
+    Verdict::Wrong(Refusal::Operand)
+}
+
+// Refusal 8 for the serial port's registers.
+fn selects(s: Selected) -> Verdict
+    ensures { λ r. ⌜ r ≡ verdictOf (reading s) ⌝ }
+{
+    match s {
+        Selected::Known(_) => Verdict::Sound,
+        Selected::SerialPort => Verdict::Wrong(Refusal::Serial),
+    }
+}
+
+// Refusal 6, 7 or 8 of a record's kind and operands.
+fn verdict_of(kind: u8, a: u8, n: u32) -> Verdict
+    ensures { λ r. ⌜ r ≡ verdictOf (eventOf kind a n) ⌝ }
+{
+    match kind {
+        0 => in_range(bits::both(a == 0, n == 0), Verdict::Sound),
+        1 => in_range(bits::both(a <= 23, n == 0), selects(read_select(a))),
+        2 => in_range(bits::both(a <= 23, n <= 255), selects(write_select(a))),
+        3 => in_range(bits::both(events::is_line(a), n <= 1), Verdict::Sound),
+        4 => in_range(bits::both(a <= 1, n <= 1), Verdict::Sound),
+        5 => in_range(a == 0, Verdict::Sound),
+        6 => in_range(bits::both(a <= 1, n == 0), Verdict::Sound),
+        7 => in_range(
+            bits::both(events::is_serial_channel(a), n == 0),
+            Verdict::Sound,
+        ),
+        _ => Verdict::Wrong(Refusal::Kind),
+    }
+}
+
+impl Raw {
+    // What the check finds of the record: refusal 5 first.
+    pub fn verdict(self) -> Verdict
+        ensures { λ r. ⌜ r ≡ verdictOf (meant self) ⌝ }
+    {
+        if self.mark0 != MARK_0 {
+            return Verdict::Wrong(Refusal::RecordMark);
+        }
+        if self.mark1 != MARK_1 {
+            return Verdict::Wrong(Refusal::RecordMark);
+        }
+        let n = bits::number_from(self.n3, self.n2, self.n1, self.n0);
+        verdict_of(self.kind, self.a, n)
+    }
+
+    // The event of a record that the check lets pass: then n is its lowest byte in all kinds but 5. The
+    // event is written out in each arm, not handed on from a call, so that the compiler keeps it in
+    // registers.
+    pub fn event(self) -> Event
+        ensures { λ r. ⌜ r ≡ taken self ⌝ }
+    {
+        let kind = self.kind;
+        let a = self.a;
+        let n0 = self.n0;
+        match kind {
+            0 => Event::Reset,
+            1 => Event::Read(known(read_select(a))),
+            2 => Event::Write(known(write_select(a)), n0),
+            3 => Event::Level(Line(a), n0 == 1),
+            4 => Event::Input(input_of(a), n0 == 1),
+            5 => Event::Clocks(bits::number_from(self.n3, self.n2, self.n1, n0)),
+            6 => Event::Acknowledge(a == 1),
+            _ => Event::Raise(Channel(a)),
+        }
+    }
+}

@@ -1,2 +1,2 @@
--- The bound of a bit's value.
+-- The laws of bits and of two truth values.
 pub mod Bits

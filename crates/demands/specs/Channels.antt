@@ -1,56 +1,19 @@
--- What stands behind two short forms of the interrupt rules: "no channel equal to or above it is in service" as a number, and an acknowledge where S is 0. Assumes nothing.
-use Prim.Native.Nat.{ℕ, zero, suc, _+_, _-_, _/_, _%_, _^_, _≤_, _<_}
-use mathlib.Core.Path.{_≡_, refl, sym, ap, subst, _∙_}
-use mathlib.Core.Bool.{Bool, true, false, cond}
-use native.Mathlib.Nat.{div-eq-of-lt, lt-of-lt-of-le, mod-lt}
-use native.Mathlib.Omega.{arith}
-use lib.Dec.{eqb, ltb}
-use lib.Pow.{pow-pos, pow-mono, field, mod-mod-pow}
-use borrow.Author.Tests.{lt-ltb, ltb-true, ltb-false}
-use Rattle.interrupts.specs.declared.Channel.{Channel}
+-- What stands behind two short forms of the interrupt rules: "no channel equal to or above it is in service" as a number, and an acknowledge where S is 0. Proved in proofs/Channels.antt.
+use Prim.Native.Nat.{ℕ, _^_, _≤_}
+use mathlib.Core.Path.{_≡_}
+use mathlib.Core.Bool.{Bool, true, false}
+use lib.Dec.{ltb}
 use Rattle.interrupts.specs.declared.Interrupts.{Interrupts}
-use Rattle.interrupts.specs.declared.Requesting.{Requesting}
-use Rattle.interrupts.specs.declared.Requesting.the-variants.{By, Nobody}
 use Rattle.interrupts.specs.Channels.{has}
-use Rattle.interrupts.specs.Interrupts.{S, given, highest, acknowledgedBy, acknowledged}
-use Rattle.interrupts.proofs.Sets.{same-set}
+use Rattle.interrupts.specs.Interrupts.{S, acknowledged}
 
--- ---- a set below 2 ^ c has no channel equal to or above c, and the other way round
-above : (s c k : ℕ) → s < 2 ^ c → c ≤ k → has s k ≡ false
-unfolding has
-above s c k h l = rw (div-eq-of-lt (lt-of-lt-of-le h (pow-mono l))) refl
+-- a set below 2 ^ c has no channel equal to or above c, and the other way round
+abbrev pub BelowHasNone : Type 0
+BelowHasNone = (s c : ℕ) → ltb s (2 ^ c) ≡ true → (k : ℕ) → c ≤ k → has s k ≡ false
 
-pub below-has-none : (s c : ℕ) → ltb s (2 ^ c) ≡ true → (k : ℕ) → c ≤ k → has s k ≡ false
-below-has-none s c e k l = above s c k (ltb-true _ _ e) l
+abbrev pub NoneIsBelow : Type 0
+NoneIsBelow = (s c : ℕ) → ((k : ℕ) → c ≤ k → has s k ≡ false) → ltb s (2 ^ c) ≡ true
 
--- the channels below c are those of the remainder
-remains : (s c k : ℕ) → k < c → has (s % 2 ^ c) k ≡ has s k
-unfolding has
-remains s c k h =
-    ap (λ (n : ℕ). eqb (n % 2) 1)
-    (ap (λ (m : ℕ). s % 2 ^ m / 2 ^ k) (let e : c ≡ (c - k - 1 + 1) + k = omega arith in e) ∙ field s (c - k - 1 + 1) k)
-    ∙ ap (λ (n : ℕ). eqb n 1) (mod-mod-pow (s / 2 ^ k) (c - k - 1) 1)
-
-pub none-is-below : (s c : ℕ) → ((k : ℕ) → c ≤ k → has s k ≡ false) → ltb s (2 ^ c) ≡ true
-none-is-below s c f = lt-ltb _ _ (subst (λ (n : ℕ). n < 2 ^ c) (sym (same-set s (s % 2 ^ c) each)) (mod-lt s (pow-pos c)))
-  where
-    each : (k : ℕ) → has s k ≡ has (s % 2 ^ c) k
-    each k = go (ltb k c) refl
-      where
-        go : (b : Bool) → ltb k c ≡ b → has s k ≡ has (s % 2 ^ c) k
-        go true e = sym (remains s c k (ltb-true _ _ e))
-        go false e = f k (ltb-false _ _ e) ∙ sym (above (s % 2 ^ c) c k (mod-lt s (pow-pos c)) (ltb-false _ _ e))
-
-no-bit : (c : Channel) (i : Interrupts) → S (i .vector) ≡ false → given c i .service ≡ i .service
-unfolding given
-no-bit c i e = rw e refl
-
--- ---- "its in-service bit is set if S is 1": where S is 0 an acknowledge sets none
-pub unserved : (iei : Bool) (i : Interrupts) → S (i .vector) ≡ false → acknowledged iei i .interrupts .service ≡ i .service
-unfolding acknowledged
-unserved false i e = refl
-unserved true i e = go (highest i)
-  where
-    go : (q : Requesting) → acknowledgedBy q i .interrupts .service ≡ i .service
-    go (By c) = no-bit c i e
-    go Nobody = refl
+-- "its in-service bit is set if S is 1": where S is 0 an acknowledge sets none
+abbrev pub Unserved : Type 0
+Unserved = (iei : Bool) (i : Interrupts) → S (i .vector) ≡ false → acknowledged iei i .interrupts .service ≡ i .service

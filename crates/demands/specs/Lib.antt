@@ -1,4 +1,4 @@
--- The theorems that the README and docs/MAP.md send a reader to.
+-- The statements that the README and docs/MAP.md send a reader to. Their proofs are in proofs/; Unique and Parts have theirs beside them.
 pub mod Examples
 pub mod Channels
 pub mod Rule
@@ -6,6 +6,5 @@ pub mod Clocks
 pub mod Images
 pub mod Refusals
 pub mod Tapes
-pub mod Unique
-pub mod Parts
+pub mod Acknowledges
 pub mod Accepted

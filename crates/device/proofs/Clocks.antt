@@ -16,18 +16,18 @@ use Rattle.device.specs.declared.Device.{Device}
 use Rattle.device.specs.Clocks.{clockTimeouts, clockTimers, clockDevice, clocksDevice, timeoutsDevice}
 
 -- n clocks of each timer of the device
-abbrev pub timersOf : ℕ → Device → Timers
-timersOf n d = timersAfter (inputActive Tai (d .lines)) (inputActive Tbi (d .lines)) n (d .timers)
+abbrev pub spanTimers : ℕ → Device → Timers
+spanTimers n d = timersAfter (inputActive Tai (d .lines)) (inputActive Tbi (d .lines)) n (d .timers)
 
-abbrev pub timeoutsOf : ℕ → Device → Timeouts
-timeoutsOf n d = timeoutsAfter (inputActive Tai (d .lines)) (inputActive Tbi (d .lines)) n (d .timers)
+abbrev pub spanTimeouts : ℕ → Device → Timeouts
+spanTimeouts n d = timeoutsAfter (inputActive Tai (d .lines)) (inputActive Tbi (d .lines)) n (d .timers)
 
-pub timeouts-each : (n : ℕ) (d : Device) → timeoutsDevice n d ≡ timeoutsOf n d
+pub timeouts-each : (n : ℕ) (d : Device) → timeoutsDevice n d ≡ spanTimeouts n d
 unfolding timeoutsDevice clockDevice clockTimers clockTimeouts timeouts
 timeouts-each zero d = refl
 timeouts-each (suc n) d = ap (addTimeouts (clockTimeouts d)) (timeouts-each n (clockDevice d))
 
-pub clocks-each : (n : ℕ) (d : Device) → clocksDevice n d ≡ record { lines = d .lines; interrupts = raised (raisedBy (timeoutRaises (timeoutsDevice n d))) (d .interrupts); timers = timersOf n d }
+pub clocks-each : (n : ℕ) (d : Device) → clocksDevice n d ≡ record { lines = d .lines; interrupts = raised (raisedBy (timeoutRaises (timeoutsDevice n d))) (d .interrupts); timers = spanTimers n d }
 unfolding clocksDevice timeoutsDevice clockDevice clockTimers clocks
 clocks-each zero d = λ k. record { lines = d .lines; interrupts = sym (ap (λ (s : ℕ). raised s (d .interrupts)) none-raises ∙ raise-none (d .interrupts)) k; timers = d .timers }
 clocks-each (suc n) d =
@@ -36,5 +36,5 @@ clocks-each (suc n) d =
       lines = d .lines;
       interrupts = (raise-raise (raisedBy (timeoutRaises (clockTimeouts d))) (raisedBy (timeoutRaises (timeoutsDevice n (clockDevice d)))) (d .interrupts)
           ∙ ap (λ (s : ℕ). raised s (d .interrupts)) (timeouts-add-raises (clockTimeouts d) (timeoutsDevice n (clockDevice d)))) k;
-      timers = timersOf n (clockDevice d);
+      timers = spanTimers n (clockDevice d);
     })

@@ -1,2 +1,3 @@
--- The laws of an image: what an accepted one has shown.
+-- What an accepted image has shown, and the round trips of its parts.
 pub mod Loads
+pub mod Parts

@@ -9,8 +9,10 @@ use lib.Bits.{bitAnd, bitOr, and-block, and-shr, and-mod, and-self, and-comm, an
 use lib.Dec.{eqb, lit<}
 use borrow.Author.Tests.{eq-eqb, eqb-true}
 use Rattle.interrupts.specs.Channels.{has, setOf, half, withHalf}
-use Rattle.interrupts.specs.Interrupts.{kept, S, raised, enabledWritten, pendingWritten, serviceWritten, maskWritten, vectorWritten, clearInterrupts, given, acknowledgedBy, acknowledged, highest, interruptRule}
+use Rattle.interrupts.specs.Interrupts.{kept, S, raised, enabledWritten, pendingWritten, serviceWritten, maskWritten, vectorWritten, interruptWritten, clearInterrupts, given, acknowledgedBy, acknowledged, highest, interruptRule}
 use Rattle.interrupts.specs.declared.Channel.{Channel}
+use Rattle.interrupts.specs.declared.InterruptRegister.{InterruptRegister}
+use Rattle.interrupts.specs.declared.InterruptRegister.the-variants.{Ier, Ipr, Isr, Imr, Vr}
 use Rattle.interrupts.specs.declared.Half.{Half}
 use Rattle.interrupts.specs.declared.Half.the-variants.{A, B}
 use Rattle.interrupts.specs.declared.Interrupts.{Interrupts}
@@ -110,23 +112,32 @@ module _ (i : Interrupts) (r : Ruled i) where
   unfolding raised
   raise-ruled s = record { unused = r .unused; within = raise-within (i .pending) s (i .enabled) (r .within); empty = r .empty }
 
-  pub enabled-ruled : (h : Half) (v : ℕ) → v < 256 → Ruled (enabledWritten h v i)
+  enabled-ruled : (h : Half) (v : ℕ) → v < 256 → Ruled (enabledWritten h v i)
   enabled-ruled h v b = record { unused = r .unused; within = stored-within (i .pending) (i .enabled) (r .within) h v b; empty = r .empty }
 
-  pub pending-ruled : (h : Half) (v : ℕ) → Ruled (pendingWritten h v i)
+  pending-ruled : (h : Half) (v : ℕ) → Ruled (pendingWritten h v i)
   pending-ruled h v = record { unused = r .unused; within = kept-within (i .pending) (i .enabled) (r .within) h v; empty = r .empty }
 
-  pub service-ruled : (h : Half) (v : ℕ) → Ruled (serviceWritten h v i)
+  service-ruled : (h : Half) (v : ℕ) → Ruled (serviceWritten h v i)
   service-ruled h v = record { unused = r .unused; within = r .within; empty = λ e. ap (λ (s : ℕ). kept h s v) (r .empty e) ∙ kept-none h v }
 
-  pub mask-ruled : (h : Half) (v : ℕ) → Ruled (maskWritten h v i)
+  mask-ruled : (h : Half) (v : ℕ) → Ruled (maskWritten h v i)
   mask-ruled h v = record { unused = r .unused; within = r .within; empty = r .empty }
 
-  pub vector-ruled : (v : ℕ) → Ruled (vectorWritten v i)
+  vector-ruled : (v : ℕ) → Ruled (vectorWritten v i)
   unfolding vectorWritten
   vector-ruled v = record { unused = omega arith; within = r .within; empty = λ e. ap (λ (b : Bool). cond b (i .service) 0) (sym (S-stored v) ∙ e) }
 
-  pub given-ruled : (c : Channel) → Ruled (given c i)
+  -- a write of any register
+  pub written-ruled : (x : InterruptRegister) (v : ℕ) → v < 256 → Ruled (interruptWritten x v i)
+  unfolding interruptWritten
+  written-ruled (Ier h) v b = enabled-ruled h v b
+  written-ruled (Ipr h) v b = pending-ruled h v
+  written-ruled (Isr h) v b = service-ruled h v
+  written-ruled (Imr h) v b = mask-ruled h v
+  written-ruled Vr v b = vector-ruled v
+
+  given-ruled : (c : Channel) → Ruled (given c i)
   unfolding given
   given-ruled c = record {
     unused = r .unused;

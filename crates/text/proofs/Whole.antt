@@ -1,43 +1,39 @@
--- The laws of a line in a buffer: what is written is the run of its stores, and a line is its parts. Assumes nothing.
-use Prim.Native.Nat.{ℕ, _+_, _≤_, _<_}
-use mathlib.Core.Path.{_≡_, sym, ap, _∙_}
-use mathlib.Core.Bool.{Bool}
-use mathlib.Core.List.{List, _∷_, _++_, append-assoc}
+-- The laws of a line in a buffer: what a public function answers of one that is too short, and of one in which it put the line. Assumes nothing.
+use Prim.Native.Nat.{ℕ, _+_, _≤_, _<_, zero-le}
+use mathlib.Core.Path.{_≡_, refl, sym, ap, _∙_}
+use mathlib.Core.List.{List, _++_}
 use native.Mathlib.Nat.{zero-add}
 use native.Mathlib.Omega.{arith}
 use borrow.Author.Tests.{lt-ltb, le-ltb}
 use lib.ListN.{length, drop}
-use lib.Seq.{sets, sets-eq, length-take-le}
-use Rattle.device.specs.declared.Answer.{Answer}
-use Rattle.device.specs.declared.Timeouts.{Timeouts}
-use Rattle.text.specs.Lines.{decimal, lineOf, middleOf, countsOf, written, writtenLength, Counts}
-
--- ---- a buffer of fewer than 64 bytes
-module _ (text out : List ℕ) (h : length out < 64) where
-  pub written-short : written text out ≡ out
-  unfolding written
-  written-short = rw (lt-ltb (length out) 64 h)
-
-  pub length-short : writtenLength text out ≡ 0
-  unfolding writtenLength
-  length-short = rw (lt-ltb (length out) 64 h)
-
--- ---- a buffer of 64 bytes or more
-module _ (text out : List ℕ) (h : 64 ≤ length out) where
-  pub length-long : writtenLength text out ≡ length text
-  unfolding writtenLength
-  length-long = rw (le-ltb (length out) 64 h)
-
-  pub written-long : length text ≤ 64 → written text out ≡ sets out 0 text
-  unfolding written
-  written-long k =
-      let e : 0 + length text ≡ length text = zero-add (length text) in
-      rw (le-ltb (length out) 64 h) (sym (sets-eq text out 0 (omega arith) ∙ ap (λ (m : ℕ). text ++ drop m out) e))
+use lib.Seq.{sets, sets-eq, length-sets, length-take-le}
+use Rattle.text.specs.Lines.{lineMost, written, writtenLength, Counts}
+use Rattle.text.specs.Private.{Puts}
 
 pub counts : (n : ℕ) (out : List ℕ) → n ≤ length out → Counts n out
 counts n out h = (h, sym (length-take-le n out h))
 
--- ---- parts
-pub line-parts : (i : ℕ) (a : Answer) (irq : Bool) (o : ℕ) (n : Timeouts) → lineOf i a irq o n ≡ decimal i ++ (32 ∷ (middleOf a irq o ++ countsOf n))
-unfolding lineOf middleOf countsOf
-line-parts i a irq o n = simp append-assoc
+abbrev Writes : List ℕ → List ℕ → List ℕ → ℕ → Type 0
+Writes text out after r = (r ≡ writtenLength text out) × ((after ≡ written text out) × Counts r after)
+
+-- ---- a buffer of fewer than `lineMost` bytes
+pub short : (text out : List ℕ) → length out < lineMost → Writes text out out 0
+unfolding written writtenLength
+short text out h = let e = lt-ltb (length out) lineMost h in (rw e, (rw e, (zero-le, refl)))
+
+-- ---- a buffer of `lineMost` bytes or more
+module _ (text out : List ℕ) (h : lineMost ≤ length out) where
+  pub length-long : writtenLength text out ≡ length text
+  unfolding writtenLength
+  length-long = rw (le-ltb (length out) lineMost h)
+
+  written-long : length text ≤ lineMost → written text out ≡ sets out 0 text
+  unfolding written
+  written-long k =
+      let e : 0 + length text ≡ length text = zero-add (length text) in
+      rw (le-ltb (length out) lineMost h) (sym (sets-eq text out 0 (omega arith) ∙ ap (λ (m : ℕ). text ++ drop m out) e))
+
+  pub long : length text ≤ lineMost → {after : List ℕ} {r : ℕ} → Puts text out 0 after r → Writes text out after r
+  long k {after} {r} p =
+      let same : length after ≡ length out = rw (p .stored) (length-sets out 0 text) in
+      (p .ends ∙ zero-add (length text) ∙ sym length-long, (p .stored ∙ sym (written-long k), counts r after (omega arith)))

@@ -1,5 +1,5 @@
 -- Document 01, "The replay program": the text of its lines, as bytes.
-use Prim.Native.Nat.{ℕ, zero, suc, _+_, _-_, _/_, _%_, _≤_}
+use Prim.Native.Nat.{ℕ, zero, suc, _+_, _-_, _*_, _/_, _%_, _≤_}
 use Prim.Native.Char.{code}
 use Prim.Native.String.{String, [] as none, _∷_ as _then_}
 use mathlib.Core.Path.{_≡_}
@@ -7,9 +7,9 @@ use mathlib.Core.Bool.{Bool, cond}
 use mathlib.Core.List.{List, [], _∷_, _++_}
 use lib.Dec.{ltb}
 use lib.ListN.{length, take, drop}
-use Rattle.device.specs.declared.Answer.{Answer}
-use Rattle.device.specs.declared.Answer.the-variants.{Done, Data, Vector, PassedOn, Held}
-use Rattle.device.specs.declared.Timeouts.{Timeouts}
+use Rattle.events.specs.declared.Answer.{Answer}
+use Rattle.events.specs.declared.Answer.the-variants.{Done, Data, Vector, PassedOn, Held}
+use Rattle.timers.specs.declared.Timeouts.{Timeouts}
 
 -- the bytes of a text
 abbrev pub bytes : String → List ℕ
@@ -65,47 +65,58 @@ abbrev pub outputsText : ℕ → List ℕ
 outputsText o = digit (o % 2) ∷ digit (o / 2 % 2) ∷ digit (o / 4 % 2) ∷ digit (o / 8 % 2) ∷ []
 
 -- ---- lines
--- a line of words: one space between two, a newline after the last
-abbrev pub lineFrom : List ℕ → List (List ℕ) → List ℕ
-lineFrom w [] = w ++ (code "\n" ∷ [])
-lineFrom w (v ∷ vs) = w ++ (code " " ∷ lineFrom v vs)
+-- a word with a space after it
+abbrev pub spaced : List ℕ → List ℕ
+spaced w = w ++ (code " " ∷ [])
 
--- "one line a record [..]: index, class (D R V P H), value [..], IRQ, outputs in order A B C D, four counts A to D"
-unfoldable pub lineOf : ℕ → Answer → Bool → ℕ → Timeouts → List ℕ
-lineOf index a irq outputs n =
-    lineFrom (decimal index)
-    ((classLetter a ∷ [])
-    ∷ valueText a
-    ∷ (irqDigit irq ∷ [])
-    ∷ outputsText outputs
-    ∷ decimal (n .a)
-    ∷ decimal (n .b)
-    ∷ decimal (n .c)
-    ∷ decimal (n .d)
-    ∷ [])
+-- the last word, with the end of the line after it
+abbrev pub ended : List ℕ → List ℕ
+ended w = w ++ (code "\n" ∷ [])
 
--- "A refused tape prints only `refused N INDEX`, in decimal"
-unfoldable pub refusedLine : ℕ → ℕ → List ℕ
-refusedLine number index = lineFrom (bytes "refused") (decimal number ∷ decimal index ∷ [])
-
--- ---- parts of a line
--- class, value, IRQ and outputs, with a space after each
+-- "class (D R V P H), value in two capital hex digits for R and V, else --, IRQ, outputs in order A B C D", each with a space after it
 unfoldable pub middleOf : Answer → Bool → ℕ → List ℕ
-middleOf a irq outputs =
-    classLetter a ∷ code " " ∷ (valueText a ++ (code " " ∷ irqDigit irq ∷ code " " ∷ (outputsText outputs ++ (code " " ∷ []))))
+middleOf a irq outputs = spaced (classLetter a ∷ []) ++ (spaced (valueText a) ++ (spaced (irqDigit irq ∷ []) ++ spaced (outputsText outputs)))
 
 -- "four counts A to D", and the end of the line
 unfoldable pub countsOf : Timeouts → List ℕ
-countsOf n = lineFrom (decimal (n .a)) (decimal (n .b) ∷ decimal (n .c) ∷ decimal (n .d) ∷ [])
+countsOf n = spaced (decimal (n .a)) ++ (spaced (decimal (n .b)) ++ (spaced (decimal (n .c)) ++ ended (decimal (n .d))))
+
+-- "prints one line a record, no header: index, [..]": the index with a space after it, the words above, the counts
+unfoldable pub lineOf : ℕ → Answer → Bool → ℕ → Timeouts → List ℕ
+lineOf index a irq outputs n = spaced (decimal index) ++ (middleOf a irq outputs ++ countsOf n)
+
+-- "A refused tape prints only `refused N INDEX`, in decimal"
+unfoldable pub refusedLine : ℕ → ℕ → List ℕ
+refusedLine number index = spaced (bytes "refused") ++ (spaced (decimal number) ++ ended (decimal index))
+
+-- ---- sizes
+-- an index, at most 65,535, and the byte after it
+abbrev pub indexMost : ℕ
+indexMost = 5 + 1
+
+-- class, value, IRQ and outputs, each with its space
+abbrev pub middleBytes : ℕ
+middleBytes = 2 + 3 + 2 + 5
+
+-- a count, at most 4,294,967,295, and the byte after it
+abbrev pub countMost : ℕ
+countMost = 10 + 1
+
+abbrev pub countsMost : ℕ
+countsMost = 4 * countMost
+
+-- a buffer of so many bytes holds every line
+abbrev pub lineMost : ℕ
+lineMost = 64
 
 -- ---- a line in a buffer
--- a line at the start of a buffer, the rest as it was; a buffer of fewer than 64 bytes stays as it was
+-- a line at the start of a buffer, the rest as it was; a buffer of fewer than `lineMost` bytes stays as it was
 unfoldable pub written : List ℕ → List ℕ → List ℕ
-written text out = cond (ltb (length out) 64) out (text ++ drop (length text) out)
+written text out = cond (ltb (length out) lineMost) out (text ++ drop (length text) out)
 
 -- how many bytes were written
 unfoldable pub writtenLength : List ℕ → List ℕ → ℕ
-writtenLength text out = cond (ltb (length out) 64) 0 (length text)
+writtenLength text out = cond (ltb (length out) lineMost) 0 (length text)
 
 -- n counts bytes at the start of a buffer. The second part follows from the first; with both, a caller's `&out[..n]` is proved by itself.
 abbrev pub Counts : ℕ → List ℕ → Type 0

@@ -1,13 +1,19 @@
 // The lines of the replay program as bytes at the start of a buffer that the caller lends. The text
-// stands in specs/Lines.antt. A buffer of 64 bytes holds every line; a shorter one stays as it was.
-use device::Answer;
-use device::Timeouts;
+// stands in specs/Lines.antt. A buffer of LINE_MOST bytes holds every line; a shorter one stays as it
+// was.
+use events::Answer;
+use timers::Timeouts;
 ghost use mathlib.Core.Path.{_≡_};
 ghost use mathlib.Core.List.{[], _∷_, _++_};
 ghost use Prim.Native.Nat.{_+_, _≤_, _<_};
 ghost use lib.ListN.{length};
-ghost use lib.Seq.{sets};
-ghost use Rattle.text.specs.Lines.{decimal, hexDigit, hexByte, classLetter, valueText, irqDigit, middleOf, countsOf, lineOf, refusedLine, written, writtenLength, Counts};
+ghost use Rattle.text.specs.Lines.{decimal, hexDigit, hexByte, classLetter, valueText, irqDigit, middleOf, countsOf, lineOf, refusedLine, countsMost, written, writtenLength, Counts};
+ghost use Rattle.text.specs.Private.{Puts};
+
+// The bytes of class, value, IRQ and outputs, and of a buffer that holds every line.
+const MIDDLE_BYTES: usize = 12;
+
+pub const LINE_MOST: usize = 64;
 
 // The hex digit of a number below 16.
 fn hex_digit(d: u8) -> u8
@@ -63,7 +69,7 @@ fn irq_digit(irq: bool) -> u8
 }
 
 // Class, value, IRQ and outputs, with a space after each.
-fn middle(a: Answer, irq: bool, outputs: u8) -> [u8; 12]
+fn middle(a: Answer, irq: bool, outputs: u8) -> [u8; MIDDLE_BYTES]
     ensures { λ r. ⌜ r ≡ middleOf a irq outputs ⌝ }
 {
     let class = class_letter(a);
@@ -88,8 +94,7 @@ fn middle(a: Answer, irq: bool, outputs: u8) -> [u8; 12]
 // Puts text at index `at`, and returns the index after it.
 fn put(out: &mut [u8], at: usize, text: &[u8]) -> usize
     requires { ⌜ at + length (now text) ≤ length (now out) ⌝ }
-    ensures { λ r. ⌜ r ≡ at + length (now (text .entry)) ⌝ }
-    ensures { λ _. ⌜ now (out .exit) ≡ sets (now (out .entry)) at (now (text .entry)) ⌝ }
+    ensures { λ r. ⌜ Puts (now (text .entry)) (now (out .entry)) at (now (out .exit)) r ⌝ }
 {
     let mut i = 0;
     while i < text.len() {
@@ -102,8 +107,7 @@ fn put(out: &mut [u8], at: usize, text: &[u8]) -> usize
 // Puts n in decimal at index `at`, and returns the index after it.
 fn put_decimal(out: &mut [u8], at: usize, n: u32) -> usize
     requires { ⌜ at + length (decimal n) ≤ length (now out) ⌝ }
-    ensures { λ r. ⌜ r ≡ at + length (decimal n) ⌝ }
-    ensures { λ _. ⌜ now (out .exit) ≡ sets (now (out .entry)) at (decimal n) ⌝ }
+    ensures { λ r. ⌜ Puts (decimal n) (now (out .entry)) at (now (out .exit)) r ⌝ }
 {
     if n < 10 {
         out[at] = b'0' + n as u8;
@@ -117,8 +121,7 @@ fn put_decimal(out: &mut [u8], at: usize, n: u32) -> usize
 // Puts n in decimal and the byte after it.
 fn put_number(out: &mut [u8], at: usize, n: u32, after: u8) -> usize
     requires { ⌜ at + length (decimal n) < length (now out) ⌝ }
-    ensures { λ r. ⌜ r ≡ at + length (decimal n) + 1 ⌝ }
-    ensures { λ _. ⌜ now (out .exit) ≡ sets (now (out .entry)) at (decimal n ++ (after ∷ [])) ⌝ }
+    ensures { λ r. ⌜ Puts (decimal n ++ (after ∷ [])) (now (out .entry)) at (now (out .exit)) r ⌝ }
 {
     let next = put_decimal(out, at, n);
     out[next] = after;
@@ -127,10 +130,8 @@ fn put_number(out: &mut [u8], at: usize, n: u32, after: u8) -> usize
 
 // Puts the four counts, A to D, and ends the line.
 fn put_counts(out: &mut [u8], at: usize, n: Timeouts) -> usize
-    requires { ⌜ at + 44 ≤ length (now out) ⌝ }
-    ensures { λ r. ⌜ r ≡ at + length (countsOf n) ⌝ }
-    ensures { λ r. ⌜ r ≤ at + 44 ⌝ }
-    ensures { λ _. ⌜ now (out .exit) ≡ sets (now (out .entry)) at (countsOf n) ⌝ }
+    requires { ⌜ at + countsMost ≤ length (now out) ⌝ }
+    ensures { λ r. ⌜ Puts (countsOf n) (now (out .entry)) at (now (out .exit)) r ⌝ }
 {
     let to_b = put_number(out, at, n.a, b' ');
     let to_c = put_number(out, to_b, n.b, b' ');
@@ -144,7 +145,7 @@ pub fn line(out: &mut [u8], index: u16, a: Answer, irq: bool, outputs: u8, n: Ti
     ensures { λ _. ⌜ now (out .exit) ≡ written (lineOf index a irq outputs n) (now (out .entry)) ⌝ }
     ensures { λ r. ⌜ Counts r (now (out .exit)) ⌝ }
 {
-    if out.len() < 64 {
+    if out.len() < LINE_MOST {
         return 0;
     }
     let words = middle(a, irq, outputs);
@@ -159,7 +160,7 @@ pub fn refused(out: &mut [u8], number: u8, index: u16) -> usize
     ensures { λ _. ⌜ now (out .exit) ≡ written (refusedLine number index) (now (out .entry)) ⌝ }
     ensures { λ r. ⌜ Counts r (now (out .exit)) ⌝ }
 {
-    if out.len() < 64 {
+    if out.len() < LINE_MOST {
         return 0;
     }
     let to_number = put(out, 0, b"refused ");

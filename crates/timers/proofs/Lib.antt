@@ -1,2 +1,3 @@
 -- The laws of the four timers that callers use.
 pub mod Raises
+pub mod Rule

@@ -46,7 +46,7 @@ module _ (t : ℕ) where
   same-length c = simp length-set
 
   returns : lts.Need-returns (below t, Post) (at t) Post
-  returns c = (rw (one c), rw (one c))
+  returns c = record { stored = rw (one c); ends = rw (one c) }
 
   -- ---- one digit more
   put-decimal-requires : lts.Need-put-decimal-requires (below t, Post) (at t) Post
@@ -71,7 +71,7 @@ module _ (t : ℕ) where
   returns-2 c =
       let h = c .before .before .before .before .if1 .left in
       let p = c .before .before .put-decimal in
-      (omega (arith, one-more _ h), rw (from-ten _ h, sets-append, ← p .ensures .1, ← p .ensures .0))
+      record { stored = rw (from-ten _ h, sets-append, ← p .ensures .stored, ← p .ensures .ends); ends = omega (arith, one-more _ h) }
 
 pub +put-decimal-spec : {M : Type 1} → statement M
 +put-decimal-spec =

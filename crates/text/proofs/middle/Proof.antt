@@ -4,9 +4,9 @@ use mathlib.Core.List.{List, [], _∷_, _++_}
 use Prim.Native.Nat.{ℕ}
 use borrow.Author.Needs.{needs}
 use lib.ListN.{getD}
-use Rattle.device.specs.declared.Answer.{Answer}
-use Rattle.device.specs.declared.Answer.the-variants.{Done, Data, Vector, PassedOn, Held}
-use Rattle.text.specs.Lines.{hexByte, valueText, irqDigit, outputsText, middleOf}
+use Rattle.events.specs.declared.Answer.{Answer}
+use Rattle.events.specs.declared.Answer.the-variants.{Done, Data, Vector, PassedOn, Held}
+use Rattle.text.specs.Lines.{hexByte, valueText, irqDigit, outputsText, spaced, middleOf}
 use Rattle.text.proofs.middle.Statement.{statement}
 use Rattle.text.proofs.middle.Tie as tie
 
@@ -38,7 +38,7 @@ add-t24 : tie.Need-add-t24
 add-t24 c = search needs
 
 -- the value's two bytes are all of its text
-two : (a : Answer) (l : List ℕ) → getD (valueText a) 0 0 ∷ getD (valueText a) 1 0 ∷ l ≡ valueText a ++ l
+two : (a : Answer) (l : List ℕ) → getD (valueText a) 0 0 ∷ getD (valueText a) 1 0 ∷ 32 ∷ l ≡ spaced (valueText a) ++ l
 unfolding hexByte
 two Done l = refl
 two (Data v) l = refl
@@ -50,7 +50,7 @@ returns : tie.Need-returns
 unfolding middleOf
 returns c =
     let a = c .before .before .before .args in
-    cc (two (a .a) (32 ∷ irqDigit (a .irq) ∷ 32 ∷ (outputsText (a .outputs) ++ (32 ∷ []))))
+    cc (two (a .a) (spaced (irqDigit (a .irq) ∷ []) ++ spaced (outputsText (a .outputs))))
 
 pub middle-spec : {M : Type 1} → statement M
 middle-spec =

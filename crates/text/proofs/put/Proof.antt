@@ -52,7 +52,7 @@ same-length c = c .before .loop .inv .1 .1
 returns : tie.Need-returns Inv-loop μ-loop
 returns c =
     let l = c .before .loop in
-    (omega arith, rw (take-all (l .i) _ (c .loop-test .left)) at (l .inv .1 .0))
+    record { stored = rw (take-all (l .i) _ (c .loop-test .left)) at (l .inv .1 .0); ends = omega arith }
 
 pub put-spec : {M : Type 1} → statement M
 put-spec =

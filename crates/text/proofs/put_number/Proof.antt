@@ -1,5 +1,6 @@
--- `text::put_number` meets its contract. Assumes nothing.
+-- `text::put_number` meets its contract: the number, and one byte more. Assumes nothing.
 use native.Mathlib.Omega.{arith}
+use lib.ListN.{length-append}
 use Rattle.text.proofs.Stores.{sets-append}
 use borrow.Author.Needs.{needs}
 use Rattle.text.proofs.put_number.Statement.{statement}
@@ -19,8 +20,8 @@ same-length c = search needs
 
 returns : tie.Need-returns
 returns c =
-    let p = c .before .before .put-decimal in
-    (omega arith, rw (sets-append, ← p .ensures .1, ← p .ensures .0))
+    let p = c .before .before .put-decimal .ensures in
+    record { stored = rw (sets-append, ← p .stored, ← p .ends); ends = simp length-append (omega arith) }
 
 pub put-number-spec : {M : Type 1} → statement M
 put-number-spec =

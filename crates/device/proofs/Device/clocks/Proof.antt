@@ -1,7 +1,7 @@
 -- `Device::clocks` meets its contract, by the law of n clocks of each timer. Assumes nothing.
 use mathlib.Core.Path.{_≡_, sym, ap, ap₂, _∙_}
 use borrow.Author.Needs.{needs}
-use Rattle.device.proofs.Clocks.{timersOf, timeoutsOf, timeouts-each, clocks-each}
+use Rattle.device.proofs.Clocks.{spanTimers, spanTimeouts, timeouts-each, clocks-each}
 use Rattle.device.specs.Events.{stepOf}
 use Rattle.device.specs.declared.Device.{Device}
 use Rattle.events.specs.declared.Answer.the-variants.{Done}
@@ -19,7 +19,7 @@ unfolding stepOf
 returns c =
     let a = c .before .before .before .before .before .before .before .before .before .before .args in
     let d = a .self in
-    let moved : c .before .before .before .before .clocks .result ≡ record { timers = timersOf (a .n) d; timeouts = timeoutsOf (a .n) d } = c .before .before .before .before .clocks .ensures ∙ ap₂ (λ (x y : Bool). clockedBy x y (a .n) (d .timers)) (c .before .before .before .before .before .before .input-is-active .ensures) (c .before .before .before .before .before .input-is-active2 .ensures) in
+    let moved : c .before .before .before .before .clocks .result ≡ record { timers = spanTimers (a .n) d; timeouts = spanTimeouts (a .n) d } = c .before .before .before .before .clocks .ensures ∙ ap₂ (λ (x y : Bool). clockedBy x y (a .n) (d .timers)) (c .before .before .before .before .before .before .input-is-active .ensures) (c .before .before .before .before .before .input-is-active2 .ensures) in
     let counts = ap (λ (m : Advanced). m .timeouts) moved ∙ sym (timeouts-each (a .n) d) in
     let raises = c .raise .ensures ∙ ap (λ s. raised s (d .interrupts)) (c .before .channels .ensures ∙ ap (λ (m : Timeouts). raisedBy (timeoutRaises m)) counts) in
     let after : _≡_ {A = Device} _ _ = (λ k. record { lines = d .lines; interrupts = raises k; timers = moved k .timers }) ∙ sym (clocks-each (a .n) d) in

@@ -14,3 +14,4 @@ pub mod Numbers
 pub mod Spans
 pub mod Tapes
 pub mod Acknowledges
+pub mod Parts

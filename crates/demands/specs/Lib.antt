@@ -7,4 +7,5 @@ pub mod Images
 pub mod Refusals
 pub mod Tapes
 pub mod Acknowledges
+pub mod Parts
 pub mod Accepted

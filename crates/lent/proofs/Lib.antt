@@ -1,4 +1,4 @@
 -- What the proofs share, and what a refused event leaves.
+pub mod Data
 pub mod Values
-pub mod Stores
 pub mod Refused

@@ -9,8 +9,8 @@ use borrow.Author.Tests.{leb-true, lt-ltb, lt-leb}
 use Rattle.interrupts.specs.Channels.{line, channel}
 use Rattle.device.specs.declared.Event.{Event}
 use Rattle.device.specs.declared.Event.the-variants.{Reset, Read, Write, Level, Input, Clocks, Acknowledge, Raise}
-use Rattle.events.specs.declared.Refusal.{Refusal}
-use Rattle.events.specs.declared.Refusal.the-variants.{RecordMark, Kind, Operand, Serial}
+use Rattle.device.specs.declared.Refusal.{Refusal}
+use Rattle.device.specs.declared.Refusal.the-variants.{RecordMark, Kind, Operand, Serial}
 use Rattle.device.specs.Events.{inRange}
 use Rattle.image.specs.Image.{byte}
 use Rattle.tape.specs.declared.Selected.{Selected}

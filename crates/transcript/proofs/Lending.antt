@@ -7,7 +7,7 @@ use Rattle.device.specs.declared.Device.{Device}
 use Rattle.device.specs.declared.Event.{Event}
 use Rattle.device.specs.declared.Answer.{Answer}
 use Rattle.device.specs.declared.Timeouts.{Timeouts}
-use Rattle.events.specs.declared.Refusal.{Refusal}
+use Rattle.device.specs.declared.Refusal.{Refusal}
 use Rattle.device.specs.declared.Stepped.{Stepped}
 use Rattle.device.specs.declared.Outcome.the-variants.{Answered, Refused}
 use Rattle.device.specs.declared.Handled.{Handled}

@@ -6,23 +6,17 @@ use mathlib.Core.List.{List, [], _++_, append-assoc, append-nil}
 use native.Mathlib.Omega.{arith}
 use lib.ListN.{length, take, drop, length-append, length-drop, take-append-drop}
 use lib.Seq.{length-take-le, take-at, drop-at, drop-drop}
-use Rattle.timer.specs.Timers.{positionRule}
-use Rattle.interrupts.specs.Channels.{has}
-use Rattle.interrupts.specs.Interrupts.{S, interruptRule}
 use Rattle.device.specs.declared.Device.{Device}
 use Rattle.device.specs.declared.Event.{Event}
 use Rattle.device.specs.Events.{freshDevice, stepOf, imageRule}
-use Rattle.demands.specs.Rule.{every-event-keeps-the-rule}
+use Rattle.demands.proofs.Rule.{every-event-keeps-the-rule}
+use Rattle.demands.proofs.Accepted.{fresh-keeps-the-rule}
 use Rattle.tape.specs.declared.Decoded.the-variants.{Valid}
 use Rattle.tape.specs.declared.Checked.the-variants.{Fine}
 use Rattle.tape.specs.Records.{recordBytes, decoded, firstBad, events}
 use Rattle.tape.proofs.Tapes.{check-valid, event-valid, events-none}
 use Rattle.transcript.specs.Transcript.{stepLine, linesOf}
 use Rattle.transcript.proofs.Decoding.{sound}
-
-fresh-keeps-the-rule : imageRule freshDevice ≡ true
-unfolding imageRule freshDevice interruptRule positionRule S has
-fresh-keeps-the-rule = refl
 
 module _ (tape out₀ : List ℕ) (n : ℕ) where
   -- the text of all n records

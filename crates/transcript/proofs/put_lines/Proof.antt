@@ -9,7 +9,7 @@ use borrow.Author.Needs.{needs}
 use lib.ListN.{length, take, drop}
 use Rattle.device.specs.declared.Device.{Device}
 use Rattle.device.specs.declared.Event.{Event}
-use Rattle.events.specs.declared.Refusal.{Refusal}
+use Rattle.device.specs.declared.Refusal.{Refusal}
 use Rattle.device.specs.declared.Stepped.{Stepped}
 use Rattle.device.specs.Events.{freshDevice, stepOf, inRange}
 use Rattle.tape.specs.declared.Decoded.the-variants.{Valid, Invalid}

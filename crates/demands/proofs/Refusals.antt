@@ -188,10 +188,11 @@ module _ (image tape : List ℕ) (room : ℕ) where
   row-number (not-refused c h) = no-refusal (record { checks = c; roomy = h })
 
 module _ (image tape answers : List ℕ) where
-  ends : {n : ℕ} → RowNumber image tape (length answers) n → n ≡ resultOf image tape answers → Ends image tape answers
+  ends : {n : ℕ} → RowNumber image tape (length answers) n → Given image tape (length answers) n → n ≡ resultOf image tape answers → Ends image tape answers n (imageAfter image tape answers) (answersAfter image tape answers)
   unfolding imageAfter answersAfter
-  ends (no-refusal p) e = with-answers (sym e) (rw (eq-eqb _ _ (sym e)) refl) (rw (eq-eqb _ _ (sym e)) refl)
-  ends (refusal-number r i) e = let p = refused image tape answers (code r i) e (code-above r i) in with-refusal r i (sym e) (code-above r i) (sym (p .1)) (sym (p .2))
+  ends (no-refusal p) g e = rw (eq-eqb _ _ (sym e)) (with-answers g)
+  ends (refusal-number r i) g e =
+      rw (ne-eqb (resultOf image tape answers) 0 (λ z. code-above r i (e ∙ z))) (with-refusal (code-above r i) g)
 
   passed-all : {n : ℕ} → RowNumber image tape (length answers) n → n ≡ 0 → PassedAll image tape (length answers)
   passed-all (no-refusal p) e = p
@@ -204,4 +205,4 @@ module _ (image tape answers : List ℕ) where
   passed-all-is-answered p = sym (no-other-row image tape answers 0 (not-refused (p .checks) (p .roomy)))
 
 pub answered-or-refused : AnsweredOrRefused
-answered-or-refused image tape answers = ends image tape answers (row-number image tape (length answers) (each-call-has-its-row image tape answers)) refl
+answered-or-refused image tape answers = let g = each-call-has-its-row image tape answers in ends image tape answers (row-number image tape (length answers) g) g refl

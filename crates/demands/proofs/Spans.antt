@@ -104,17 +104,19 @@ module _ (image cut joined : List ℕ) (i m n : ℕ) (s : Spanned cut joined i m
           let l : j - 1 < records joined = omega (arith, one-more) in
           subst (GoodRecord cut) (let z : j - 1 + 1 ≡ j = omega arith in z) (same-meaning-is-good cut joined (j - 1 + 1) (j - 1) (s .after (j - 1) (omega arith) l) (g (j - 1) l))
 
-  -- so the one is answered where the other is
+  -- so the one is answered where the other is, in any buffer with room for it
+  pub joined-answered-in : (answers answers′ : List ℕ) → resultOf image cut answers ≡ 0 → answerBytes * records joined ≤ length answers′ → resultOf image joined answers′ ≡ 0
+  joined-answered-in answers answers′ ok roomy =
+      let c = an-answered-call-passed-all image cut answers ok .checks in
+      let l = s .longer in
+      let n = c .not-above in
+      passed-all-is-answered image joined answers′ (record { checks = record { good-image = c .good-image; whole-records = omega arith; not-above = omega arith; good-before = joined-good (c .good-before) }; roomy = roomy })
+
+  -- the joined tape has room where the cut one had
   pub joined-answered : (answers : List ℕ) → resultOf image cut answers ≡ 0 → resultOf image joined answers ≡ 0
   joined-answered answers ok =
       let p : PassedAll image cut (length answers) = an-answered-call-passed-all image cut answers ok in
-      let c = p .checks in
-      let l = s .longer in
-      passed-all-is-answered image joined answers
-      (record {
-        checks = record { good-image = c .good-image; whole-records = omega arith; not-above = omega arith; good-before = joined-good (c .good-before) };
-        roomy = omega (arith, one-more);
-      })
+      joined-answered-in answers answers ok (omega (arith, one-more))
 
   pub cut-answered : (answers answers′ : List ℕ) → resultOf image joined answers ≡ 0 → length cut ≤ tapeMost → answerBytes * records cut ≤ length answers′ → resultOf image cut answers′ ≡ 0
   cut-answered answers answers′ ok short roomy =

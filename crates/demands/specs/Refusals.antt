@@ -127,18 +127,16 @@ EachCallHasItsRow = (image tape answers : List ℕ) → Given image tape (length
 abbrev pub NoOtherRow : Type 0
 NoOtherRow = (image tape answers : List ℕ) (n : ℕ) → Given image tape (length answers) n → n ≡ resultOf image tape answers
 
--- ---- what a call leaves
-pub data Ends (image tape answers : List ℕ) : Type 0 where
-  -- 0, with the run's image and answers
-  with-answers : resultOf image tape answers ≡ 0
-      → imageAfter image tape answers ≡ imageOf (runOf (deviceOf image) (eventsOf tape))
-      → answersAfter image tape answers ≡ answersOf (deviceOf image) (eventsOf tape) ++ drop (answerBytes * records tape) answers
-      → Ends image tape answers
-  -- a refusal, not 0, with both buffers as they came
-  with-refusal : (r : Refusal) (i : ℕ) → resultOf image tape answers ≡ code r i → (code r i ≡ 0 → ⊥) → imageAfter image tape answers ≡ image → answersAfter image tape answers ≡ answers → Ends image tape answers
+-- ---- what a call leaves: the number, the image and the answers at exit
+pub data Ends (image tape answers : List ℕ) : ℕ → List ℕ → List ℕ → Type 0 where
+  -- 0, with the run's image and answers: "Success writes the image and the first 22 × records answer bytes only."
+  with-answers : Given image tape (length answers) 0
+      → Ends image tape answers 0 (imageOf (runOf (deviceOf image) (eventsOf tape))) (answersOf (deviceOf image) (eventsOf tape) ++ drop (answerBytes * records tape) answers)
+  -- a refusal, not 0, with both buffers as they came: "A refused call leaves the lent image and answer buffer as they came."
+  with-refusal : {n : ℕ} → (n ≡ 0 → ⊥) → Given image tape (length answers) n → Ends image tape answers n image answers
 
 abbrev pub AnsweredOrRefused : Type 0
-AnsweredOrRefused = (image tape answers : List ℕ) → Ends image tape answers
+AnsweredOrRefused = (image tape answers : List ℕ) → Ends image tape answers (resultOf image tape answers) (imageAfter image tape answers) (answersAfter image tape answers)
 
 -- ---- the words of the table and the definitions of the code
 -- a good image is one that loads, as the device of its bytes

@@ -37,9 +37,13 @@ pub record RecordOf (e : Event) (r : List ℕ) : Type 0 where
   pub means : Means r 0 e
 
 -- ---- an answer buffer by its answers
+-- the answer of index i in a buffer
+abbrev pub answerIn : List ℕ → ℕ → List ℕ
+answerIn answers i = take answerBytes (drop (answerBytes * i) answers)
+
 -- the answer to the record of index i that a call leaves
 abbrev pub answerTo : List ℕ → List ℕ → List ℕ → ℕ → List ℕ
-answerTo image tape answers i = take answerBytes (drop (answerBytes * i) (answersAfter image tape answers))
+answerTo image tape answers i = answerIn (answersAfter image tape answers) i
 
 -- "An answer is 22 bytes: mark 4D 41, class [..], value (0 if none), IRQ after it (0, 1), outputs as in byte 29, four timeout counts A to D of four bytes, high byte first."
 abbrev pub classAt : List ℕ → ℕ
@@ -82,23 +86,27 @@ pub record SaysDone (answer : List ℕ) : Type 0 where
   pub class : classAt answer ≡ 0
   pub value : valueAt answer ≡ 0
 
--- What the call with the cut tape and the call with the joined one leave: the same but for the counts of the span, which add up.
-pub record SameBut (image cut answers′ joined answers : List ℕ) (i : ℕ) : Type 0 where
+-- What a call with the cut tape and one with the joined tape of n records leave, images and answer buffers: the same but for the counts of the span, which add up.
+pub record SameButCounts (image image′ cut joined : List ℕ) (n i : ℕ) : Type 0 where
   -- "the final device"
-  pub final : imageAfter image cut answers′ ≡ imageAfter image joined answers
+  pub final : image ≡ image′
   -- "request and outputs after the span"
-  pub request : requestAt (answerTo image cut answers′ (i + 1)) ≡ requestAt (answerTo image joined answers i)
-  pub outputs : outputsAt (answerTo image cut answers′ (i + 1)) ≡ outputsAt (answerTo image joined answers i)
+  pub request : requestAt (answerIn cut (i + 1)) ≡ requestAt (answerIn joined i)
+  pub outputs : outputsAt (answerIn cut (i + 1)) ≡ outputsAt (answerIn joined i)
   -- "and answers to other events stay the same"
-  pub before : (j : ℕ) → j < i → answerTo image cut answers′ j ≡ answerTo image joined answers j
-  pub after : (j : ℕ) → i < j → j < records joined → answerTo image cut answers′ (j + 1) ≡ answerTo image joined answers j
+  pub before : (j : ℕ) → j < i → answerIn cut j ≡ answerIn joined j
+  pub after : (j : ℕ) → i < j → j < n → answerIn cut (j + 1) ≡ answerIn joined j
   -- "and timeout counts add up"
-  pub counts : (k : ℕ) → k < 4 → countAt k (answerTo image joined answers i) ≡ countAt k (answerTo image cut answers′ i) + countAt k (answerTo image cut answers′ (i + 1))
+  pub counts : (k : ℕ) → k < 4 → countAt k (answerIn joined i) ≡ countAt k (answerIn cut i) + countAt k (answerIn cut (i + 1))
   -- all three answers of the span say "done", and the joined one has all bytes but the counts from the last
-  pub first-done : SaysDone (answerTo image cut answers′ i)
-  pub second-done : SaysDone (answerTo image cut answers′ (i + 1))
-  pub whole-done : SaysDone (answerTo image joined answers i)
-  pub head : take countsFrom (answerTo image cut answers′ (i + 1)) ≡ take countsFrom (answerTo image joined answers i)
+  pub first-done : SaysDone (answerIn cut i)
+  pub second-done : SaysDone (answerIn cut (i + 1))
+  pub whole-done : SaysDone (answerIn joined i)
+  pub head : take countsFrom (answerIn cut (i + 1)) ≡ take countsFrom (answerIn joined i)
+
+abbrev pub SameBut : List ℕ → List ℕ → List ℕ → List ℕ → List ℕ → ℕ → Type 0
+SameBut image cut answers′ joined answers i =
+    SameButCounts (imageAfter image cut answers′) (imageAfter image joined answers) (answersAfter image cut answers′) (answersAfter image joined answers) (records joined) i
 
 -- So it is of any two tapes so related, if both calls are answered.
 abbrev pub Stays : Type 0

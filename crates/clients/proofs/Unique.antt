@@ -1,0 +1,370 @@
+-- Each public function promises one outcome: its contract is an equation, or several, between what it gives or leaves and a definition. One law, and a line for each function.
+-- `lent::event` alone is not here: the checker reads no plain promise off a contract over a lent record. `lent::event_by_value` is, and its proof rests on it. Assumes nothing.
+use mathlib.Core.Path.{_≡_, sym, _∙_}
+use denote.Ref.{now}
+use Rattle.clients.specs.Unique.{FixesResult, FixesBuffer}
+use Rattle.bits.proofs.both.Reads as bits-both
+use Rattle.bits.proofs.bit_value.Reads as bits-bit-value
+use Rattle.bits.proofs.number_from.Reads as bits-number-from
+use Rattle.bits.proofs.four_bytes.Reads as bits-four-bytes
+use Rattle.timer.proofs.Timer.fresh.Reads as timer-Timer-fresh
+use Rattle.timer.proofs.Timer.reset.Reads as timer-Timer-reset
+use Rattle.timer.proofs.Timer.counts_events.Reads as timer-Timer-counts-events
+use Rattle.timer.proofs.Timer.delays.Reads as timer-Timer-delays
+use Rattle.timer.proofs.Timer.measures_pulses.Reads as timer-Timer-measures-pulses
+use Rattle.timer.proofs.Timer.goes.Reads as timer-Timer-goes
+use Rattle.timer.proofs.Timer.is_due.Reads as timer-Timer-is-due
+use Rattle.timer.proofs.Timer.pulse.Reads as timer-Timer-pulse
+use Rattle.timer.proofs.Timer.clock.Reads as timer-Timer-clock
+use Rattle.timer.proofs.Timer.clocks.Reads as timer-Timer-clocks
+use Rattle.timer.proofs.Timer.control.Reads as timer-Timer-control
+use Rattle.timer.proofs.Timer.write.Reads as timer-Timer-write
+use Rattle.timer.proofs.Timer.keeps_rule.Reads as timer-Timer-keeps-rule
+use Rattle.interrupts.proofs.channel_of.Reads as interrupts-channel-of
+use Rattle.interrupts.proofs.set_of.Reads as interrupts-set-of
+use Rattle.interrupts.proofs.only_if.Reads as interrupts-only-if
+use Rattle.interrupts.proofs.half_of.Reads as interrupts-half-of
+use Rattle.interrupts.proofs.with_half.Reads as interrupts-with-half
+use Rattle.interrupts.proofs.Interrupts.clear.Reads as interrupts-Interrupts-clear
+use Rattle.interrupts.proofs.Interrupts.read.Reads as interrupts-Interrupts-read
+use Rattle.interrupts.proofs.Interrupts.write.Reads as interrupts-Interrupts-write
+use Rattle.interrupts.proofs.Interrupts.raise.Reads as interrupts-Interrupts-raise
+use Rattle.interrupts.proofs.Interrupts.keeps_rule.Reads as interrupts-Interrupts-keeps-rule
+use Rattle.interrupts.proofs.Interrupts.highest.Reads as interrupts-Interrupts-highest
+use Rattle.interrupts.proofs.Interrupts.irq.Reads as interrupts-Interrupts-irq
+use Rattle.interrupts.proofs.Interrupts.acknowledge.Reads as interrupts-Interrupts-acknowledge
+use Rattle.timers.proofs.Timeouts.zero.Reads as timers-Timeouts-zero
+use Rattle.timers.proofs.Timeouts.channels.Reads as timers-Timeouts-channels
+use Rattle.timers.proofs.Timers.fresh.Reads as timers-Timers-fresh
+use Rattle.timers.proofs.Timers.reset.Reads as timers-Timers-reset
+use Rattle.timers.proofs.Timers.clocks.Reads as timers-Timers-clocks
+use Rattle.timers.proofs.Timers.count.Reads as timers-Timers-count
+use Rattle.timers.proofs.Timers.tcdcr.Reads as timers-Timers-tcdcr
+use Rattle.timers.proofs.Timers.read.Reads as timers-Timers-read
+use Rattle.timers.proofs.Timers.write.Reads as timers-Timers-write
+use Rattle.timers.proofs.Timers.outputs.Reads as timers-Timers-outputs
+use Rattle.timers.proofs.Timers.keeps_rule.Reads as timers-Timers-keeps-rule
+use Rattle.lines.proofs.Lines.fresh.Reads as lines-Lines-fresh
+use Rattle.lines.proofs.Lines.reset.Reads as lines-Lines-reset
+use Rattle.lines.proofs.Lines.read.Reads as lines-Lines-read
+use Rattle.lines.proofs.Lines.write.Reads as lines-Lines-write
+use Rattle.lines.proofs.Lines.input_is_active.Reads as lines-Lines-input-is-active
+use Rattle.lines.proofs.Lines.input_becomes.Reads as lines-Lines-input-becomes
+use Rattle.lines.proofs.Lines.with_level.Reads as lines-Lines-with-level
+use Rattle.lines.proofs.Lines.with_input.Reads as lines-Lines-with-input
+use Rattle.lines.proofs.Lines.raises.Reads as lines-Lines-raises
+use Rattle.events.proofs.is_line.Reads as events-is-line
+use Rattle.events.proofs.is_serial_channel.Reads as events-is-serial-channel
+use Rattle.events.proofs.is_in_range.Reads as events-is-in-range
+use Rattle.events.proofs.class_of.Reads as events-class-of
+use Rattle.events.proofs.value_of.Reads as events-value-of
+use Rattle.events.proofs.number_of.Reads as events-number-of
+use Rattle.device.proofs.Device.fresh.Reads as device-Device-fresh
+use Rattle.device.proofs.Device.reset.Reads as device-Device-reset
+use Rattle.device.proofs.Device.irq.Reads as device-Device-irq
+use Rattle.device.proofs.Device.outputs.Reads as device-Device-outputs
+use Rattle.device.proofs.Device.read.Reads as device-Device-read
+use Rattle.device.proofs.Device.step.Reads as device-Device-step
+use Rattle.device.proofs.Device.write.Reads as device-Device-write
+use Rattle.device.proofs.Device.acknowledge.Reads as device-Device-acknowledge
+use Rattle.device.proofs.Device.keeps_rule.Reads as device-Device-keeps-rule
+use Rattle.device.proofs.Device.handle.Reads as device-Device-handle
+use Rattle.record.proofs.read_select.Reads as record-read-select
+use Rattle.record.proofs.write_select.Reads as record-write-select
+use Rattle.record.proofs.Raw.verdict.Reads as record-Raw-verdict
+use Rattle.record.proofs.Raw.event.Reads as record-Raw-event
+use Rattle.answer.proofs.head.Reads as answer-head
+use Rattle.image.proofs.load.Reads as image-load
+use Rattle.image.proofs.store.Reads as image-store
+use Rattle.image.proofs.save.Reads as image-save
+use Rattle.text.proofs.line.Reads as text-line
+use Rattle.text.proofs.refused.Reads as text-refused
+use Rattle.tape.proofs.record_at.Reads as tape-record-at
+use Rattle.tape.proofs.check.Reads as tape-check
+use Rattle.tape.proofs.run.Reads as tape-run
+use Rattle.mfp.proofs.mfp_run.Reads as mfp-mfp-run
+use Rattle.mfp.proofs.mfp_fresh.Reads as mfp-mfp-fresh
+
+-- the law: whatever a contract equates its outcome with, it leaves one
+one : {X : Type 0} {meant x y : X} → x ≡ meant → y ≡ meant → x ≡ y
+one p q = p ∙ sym q
+
+-- ---- bits
+bits-both-fixed : FixesResult bits-both.Learnt
+bits-both-fixed κs a x y s t p q = one p q
+
+bits-bit-value-fixed : FixesResult bits-bit-value.Learnt
+bits-bit-value-fixed κs a x y s t p q = one p q
+
+bits-number-from-fixed : FixesResult bits-number-from.Learnt
+bits-number-from-fixed κs a x y s t p q = one p q
+
+bits-four-bytes-fixed : FixesResult bits-four-bytes.Learnt
+bits-four-bytes-fixed κs a x y s t p q = one p q
+
+-- ---- timer
+timer-Timer-fresh-fixed : FixesResult timer-Timer-fresh.Learnt
+timer-Timer-fresh-fixed κs a x y s t p q = one p q
+
+timer-Timer-reset-fixed : FixesResult timer-Timer-reset.Learnt
+timer-Timer-reset-fixed κs a x y s t p q = one p q
+
+timer-Timer-counts-events-fixed : FixesResult timer-Timer-counts-events.Learnt
+timer-Timer-counts-events-fixed κs a x y s t p q = one p q
+
+timer-Timer-delays-fixed : FixesResult timer-Timer-delays.Learnt
+timer-Timer-delays-fixed κs a x y s t p q = one p q
+
+timer-Timer-measures-pulses-fixed : FixesResult timer-Timer-measures-pulses.Learnt
+timer-Timer-measures-pulses-fixed κs a x y s t p q = one p q
+
+timer-Timer-goes-fixed : FixesResult timer-Timer-goes.Learnt
+timer-Timer-goes-fixed κs a x y s t p q = one p q
+
+timer-Timer-is-due-fixed : FixesResult timer-Timer-is-due.Learnt
+timer-Timer-is-due-fixed κs a x y s t p q = one p q
+
+timer-Timer-pulse-fixed : FixesResult timer-Timer-pulse.Learnt
+timer-Timer-pulse-fixed κs a x y s t p q = one p q
+
+timer-Timer-clock-fixed : FixesResult timer-Timer-clock.Learnt
+timer-Timer-clock-fixed κs a x y s t p q = one p q
+
+timer-Timer-clocks-fixed : FixesResult timer-Timer-clocks.Learnt
+timer-Timer-clocks-fixed κs a x y s t p q = λ k. record { timer = one (p .0) (q .0) k; timeouts = one (p .1) (q .1) k }
+
+timer-Timer-control-fixed : FixesResult timer-Timer-control.Learnt
+timer-Timer-control-fixed κs a x y s t p q = one p q
+
+timer-Timer-write-fixed : FixesResult timer-Timer-write.Learnt
+timer-Timer-write-fixed κs a x y s t p q = one p q
+
+timer-Timer-keeps-rule-fixed : FixesResult timer-Timer-keeps-rule.Learnt
+timer-Timer-keeps-rule-fixed κs a x y s t p q = one p q
+
+-- ---- interrupts
+interrupts-channel-of-fixed : FixesResult interrupts-channel-of.Learnt
+interrupts-channel-of-fixed κs a x y s t p q = one p q
+
+interrupts-set-of-fixed : FixesResult interrupts-set-of.Learnt
+interrupts-set-of-fixed κs a x y s t p q = one p q
+
+interrupts-only-if-fixed : FixesResult interrupts-only-if.Learnt
+interrupts-only-if-fixed κs a x y s t p q = one p q
+
+interrupts-half-of-fixed : FixesResult interrupts-half-of.Learnt
+interrupts-half-of-fixed κs a x y s t p q = one p q
+
+interrupts-with-half-fixed : FixesResult interrupts-with-half.Learnt
+interrupts-with-half-fixed κs a x y s t p q = one p q
+
+interrupts-Interrupts-clear-fixed : FixesResult interrupts-Interrupts-clear.Learnt
+interrupts-Interrupts-clear-fixed κs a x y s t p q = one p q
+
+interrupts-Interrupts-read-fixed : FixesResult interrupts-Interrupts-read.Learnt
+interrupts-Interrupts-read-fixed κs a x y s t p q = one p q
+
+interrupts-Interrupts-write-fixed : FixesResult interrupts-Interrupts-write.Learnt
+interrupts-Interrupts-write-fixed κs a x y s t p q = one p q
+
+interrupts-Interrupts-raise-fixed : FixesResult interrupts-Interrupts-raise.Learnt
+interrupts-Interrupts-raise-fixed κs a x y s t p q = one p q
+
+interrupts-Interrupts-keeps-rule-fixed : FixesResult interrupts-Interrupts-keeps-rule.Learnt
+interrupts-Interrupts-keeps-rule-fixed κs a x y s t p q = one p q
+
+interrupts-Interrupts-highest-fixed : FixesResult interrupts-Interrupts-highest.Learnt
+interrupts-Interrupts-highest-fixed κs a x y s t p q = one p q
+
+interrupts-Interrupts-irq-fixed : FixesResult interrupts-Interrupts-irq.Learnt
+interrupts-Interrupts-irq-fixed κs a x y s t p q = one p q
+
+interrupts-Interrupts-acknowledge-fixed : FixesResult interrupts-Interrupts-acknowledge.Learnt
+interrupts-Interrupts-acknowledge-fixed κs a x y s t p q = one p q
+
+-- ---- timers
+timers-Timeouts-zero-fixed : FixesResult timers-Timeouts-zero.Learnt
+timers-Timeouts-zero-fixed κs a x y s t p q = one p q
+
+timers-Timeouts-channels-fixed : FixesResult timers-Timeouts-channels.Learnt
+timers-Timeouts-channels-fixed κs a x y s t p q = one p q
+
+timers-Timers-fresh-fixed : FixesResult timers-Timers-fresh.Learnt
+timers-Timers-fresh-fixed κs a x y s t p q = one p q
+
+timers-Timers-reset-fixed : FixesResult timers-Timers-reset.Learnt
+timers-Timers-reset-fixed κs a x y s t p q = one p q
+
+timers-Timers-clocks-fixed : FixesResult timers-Timers-clocks.Learnt
+timers-Timers-clocks-fixed κs a x y s t p q = one p q
+
+timers-Timers-count-fixed : FixesResult timers-Timers-count.Learnt
+timers-Timers-count-fixed κs a x y s t p q = one p q
+
+timers-Timers-tcdcr-fixed : FixesResult timers-Timers-tcdcr.Learnt
+timers-Timers-tcdcr-fixed κs a x y s t p q = one p q
+
+timers-Timers-read-fixed : FixesResult timers-Timers-read.Learnt
+timers-Timers-read-fixed κs a x y s t p q = one p q
+
+timers-Timers-write-fixed : FixesResult timers-Timers-write.Learnt
+timers-Timers-write-fixed κs a x y s t p q = one p q
+
+timers-Timers-outputs-fixed : FixesResult timers-Timers-outputs.Learnt
+timers-Timers-outputs-fixed κs a x y s t p q = one p q
+
+timers-Timers-keeps-rule-fixed : FixesResult timers-Timers-keeps-rule.Learnt
+timers-Timers-keeps-rule-fixed κs a x y s t p q = one p q
+
+-- ---- lines
+lines-Lines-fresh-fixed : FixesResult lines-Lines-fresh.Learnt
+lines-Lines-fresh-fixed κs a x y s t p q = one p q
+
+lines-Lines-reset-fixed : FixesResult lines-Lines-reset.Learnt
+lines-Lines-reset-fixed κs a x y s t p q = one p q
+
+lines-Lines-read-fixed : FixesResult lines-Lines-read.Learnt
+lines-Lines-read-fixed κs a x y s t p q = one p q
+
+lines-Lines-write-fixed : FixesResult lines-Lines-write.Learnt
+lines-Lines-write-fixed κs a x y s t p q = one p q
+
+lines-Lines-input-is-active-fixed : FixesResult lines-Lines-input-is-active.Learnt
+lines-Lines-input-is-active-fixed κs a x y s t p q = one p q
+
+lines-Lines-input-becomes-fixed : FixesResult lines-Lines-input-becomes.Learnt
+lines-Lines-input-becomes-fixed κs a x y s t p q = one p q
+
+lines-Lines-with-level-fixed : FixesResult lines-Lines-with-level.Learnt
+lines-Lines-with-level-fixed κs a x y s t p q = one p q
+
+lines-Lines-with-input-fixed : FixesResult lines-Lines-with-input.Learnt
+lines-Lines-with-input-fixed κs a x y s t p q = one p q
+
+lines-Lines-raises-fixed : FixesResult lines-Lines-raises.Learnt
+lines-Lines-raises-fixed κs a x y s t p q = one p q
+
+-- ---- events
+events-is-line-fixed : FixesResult events-is-line.Learnt
+events-is-line-fixed κs a x y s t p q = one p q
+
+events-is-serial-channel-fixed : FixesResult events-is-serial-channel.Learnt
+events-is-serial-channel-fixed κs a x y s t p q = one p q
+
+events-is-in-range-fixed : FixesResult events-is-in-range.Learnt
+events-is-in-range-fixed κs a x y s t p q = one p q
+
+events-class-of-fixed : FixesResult events-class-of.Learnt
+events-class-of-fixed κs a x y s t p q = one p q
+
+events-value-of-fixed : FixesResult events-value-of.Learnt
+events-value-of-fixed κs a x y s t p q = one p q
+
+events-number-of-fixed : FixesResult events-number-of.Learnt
+events-number-of-fixed κs a x y s t p q = one p q
+
+-- ---- device
+device-Device-fresh-fixed : FixesResult device-Device-fresh.Learnt
+device-Device-fresh-fixed κs a x y s t p q = one p q
+
+device-Device-reset-fixed : FixesResult device-Device-reset.Learnt
+device-Device-reset-fixed κs a x y s t p q = one p q
+
+device-Device-irq-fixed : FixesResult device-Device-irq.Learnt
+device-Device-irq-fixed κs a x y s t p q = one p q
+
+device-Device-outputs-fixed : FixesResult device-Device-outputs.Learnt
+device-Device-outputs-fixed κs a x y s t p q = one p q
+
+device-Device-read-fixed : FixesResult device-Device-read.Learnt
+device-Device-read-fixed κs a x y s t p q = one p q
+
+device-Device-step-fixed : FixesResult device-Device-step.Learnt
+device-Device-step-fixed κs a x y s t p q = one p q
+
+device-Device-write-fixed : FixesResult device-Device-write.Learnt
+device-Device-write-fixed κs a x y s t p q = one p q
+
+device-Device-acknowledge-fixed : FixesResult device-Device-acknowledge.Learnt
+device-Device-acknowledge-fixed κs a x y s t p q = one p q
+
+device-Device-keeps-rule-fixed : FixesResult device-Device-keeps-rule.Learnt
+device-Device-keeps-rule-fixed κs a x y s t p q = one p q
+
+device-Device-handle-fixed : FixesResult device-Device-handle.Learnt
+device-Device-handle-fixed κs a x y s t p q = one p q
+
+-- ---- record
+record-read-select-fixed : FixesResult record-read-select.Learnt
+record-read-select-fixed κs a x y s t p q = one p q
+
+record-write-select-fixed : FixesResult record-write-select.Learnt
+record-write-select-fixed κs a x y s t p q = one p q
+
+record-Raw-verdict-fixed : FixesResult record-Raw-verdict.Learnt
+record-Raw-verdict-fixed κs a x y s t p q = one p q
+
+record-Raw-event-fixed : FixesResult record-Raw-event.Learnt
+record-Raw-event-fixed κs a x y s t p q = one p q
+
+-- ---- answer
+answer-head-fixed : FixesResult answer-head.Learnt
+answer-head-fixed κs a x y s t p q = one p q
+
+-- ---- image
+image-load-fixed : FixesResult image-load.Learnt
+image-load-fixed κs a x y s t p q = one p q
+
+image-store-buffer-fixed : FixesBuffer image-store.Learnt (λ κs s. now (s .1 .0))
+image-store-buffer-fixed κs a x y s t p q = one p q
+
+image-save-fixed : FixesResult image-save.Learnt
+image-save-fixed κs a x y s t p q = one (p .0) (q .0)
+
+image-save-buffer-fixed : FixesBuffer image-save.Learnt (λ κs s. now (s .1 .0))
+image-save-buffer-fixed κs a x y s t p q = one (p .1) (q .1)
+
+-- ---- text
+text-line-fixed : FixesResult text-line.Learnt
+text-line-fixed κs a x y s t p q = one (p .0) (q .0)
+
+text-line-buffer-fixed : FixesBuffer text-line.Learnt (λ κs s. now (s .0))
+text-line-buffer-fixed κs a x y s t p q = one (p .1 .0) (q .1 .0)
+
+text-refused-fixed : FixesResult text-refused.Learnt
+text-refused-fixed κs a x y s t p q = one (p .0) (q .0)
+
+text-refused-buffer-fixed : FixesBuffer text-refused.Learnt (λ κs s. now (s .0))
+text-refused-buffer-fixed κs a x y s t p q = one (p .1 .0) (q .1 .0)
+
+-- ---- tape
+tape-record-at-fixed : FixesResult tape-record-at.Learnt
+tape-record-at-fixed κs a x y s t p q = one p q
+
+tape-check-fixed : FixesResult tape-check.Learnt
+tape-check-fixed κs a x y s t p q = one p q
+
+tape-run-fixed : FixesResult tape-run.Learnt
+tape-run-fixed κs a x y s t p q = one (p .0) (q .0)
+
+tape-run-image-fixed : FixesBuffer tape-run.Learnt (λ κs s. now (s .0))
+tape-run-image-fixed κs a x y s t p q = one (p .1) (q .1)
+
+tape-run-answers-fixed : FixesBuffer tape-run.Learnt (λ κs s. now (s .1 .1 .0))
+tape-run-answers-fixed κs a x y s t p q = one (p .2) (q .2)
+
+-- ---- mfp
+mfp-mfp-run-fixed : FixesResult mfp-mfp-run.Learnt
+mfp-mfp-run-fixed κs a x y s t p q = one (p .0) (q .0)
+
+mfp-mfp-run-image-fixed : FixesBuffer mfp-mfp-run.Learnt (λ κs s. now (s .0))
+mfp-mfp-run-image-fixed κs a x y s t p q = one (p .1) (q .1)
+
+mfp-mfp-run-answers-fixed : FixesBuffer mfp-mfp-run.Learnt (λ κs s. now (s .1 .1 .0))
+mfp-mfp-run-answers-fixed κs a x y s t p q = one (p .2) (q .2)
+
+mfp-mfp-fresh-fixed : FixesResult mfp-mfp-fresh.Learnt
+mfp-mfp-fresh-fixed κs a x y s t p q = one (p .0) (q .0)
+
+mfp-mfp-fresh-buffer-fixed : FixesBuffer mfp-mfp-fresh.Learnt (λ κs s. now (s .0))
+mfp-mfp-fresh-buffer-fixed κs a x y s t p q = one (p .1) (q .1)

@@ -1,0 +1,22 @@
+-- `clients::load_then_save` meets its contract. Assumes nothing.
+use mathlib.Core.Path.{_≡_, refl, sym, ap, ap₂, _∙_}
+use borrow.Author.Needs.{needs}
+use Rattle.clients.proofs.Relied.{loaded-and-saved}
+use Rattle.clients.proofs.load_then_save.Statement.{statement}
+use Rattle.clients.proofs.load_then_save.Tie as tie
+
+returns : tie.Need-returns
+returns c = let a = c .before .before .before .before .before .before .before .before .before .before .args in loaded-and-saved _ (a .image .now) _ (λ k. c .before .before .before .before .before .before .before .before .before .slice-known .given k .fits) (sym (c .before .before .before .before .before .before .before .load .ensures) ∙ c .before .before .before .before .before .l .given .1) (c .before .before .save .ensures .1)
+
+pub load-then-save-spec : {M : Type 1} → statement M
+load-then-save-spec =
+    tie.close
+    (tie.spec
+    (λ c κs. search needs)
+    (λ c. search needs)
+    (λ c κs. search needs)
+    (λ c. search needs)
+    (λ c. search needs)
+    returns
+    (λ c. search needs)
+    (λ c. search needs))

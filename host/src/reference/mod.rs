@@ -1,6 +1,7 @@
-//! The second implementation of the rules: written from the paper, one clock
-//! at a time, with channels and lines as rows of bools. It shares no code, no
-//! table and no formula with the proved library, and it is in no hurry.
+//! The second implementation of the rules: written from the paper, with
+//! channels and lines as rows of bools. It takes no code from the proved
+//! library; its tables are its own copies of the paper's. Short spans go one
+//! clock at a time, long ones by a closed form of its own. It is in no hurry.
 
 pub mod device;
 pub mod image;

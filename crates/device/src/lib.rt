@@ -50,15 +50,30 @@ pub struct Handled {
     pub outcome: Outcome,
 }
 
+// An event done: the device that it leaves, written out (D87), its answer and its timeouts.
+fn whole(d: Device, a: Answer, n: Timeouts) -> Begun
+    ensures { λ r. ⌜ r ≡ Begun.Whole (record { device = d; answer = a; timeouts = n }) ⌝ }
+{
+    let l = d.lines;
+    let i = d.interrupts;
+    let t = d.timers;
+    let after = Device {
+        lines: l.written_out(),
+        interrupts: i.written_out(),
+        timers: t.written_out(),
+    };
+    Begun::Whole(Stepped {
+        device: after,
+        answer: a,
+        timeouts: n,
+    })
+}
+
 // An event whose whole work is to leave this device.
 fn done_with(d: Device) -> Begun
     ensures { λ r. ⌜ r ≡ Begun.Whole (done d) ⌝ }
 {
-    Begun::Whole(Stepped {
-        device: d,
-        answer: Answer::Done,
-        timeouts: Timeouts::zero(),
-    })
+    whole(d, Answer::Done, Timeouts::zero())
 }
 
 fn replied(r: Reply) -> Answer
@@ -159,9 +174,9 @@ impl Device {
 
     // ---- events
 
-    // n clocks at once.
-    fn clocks(self, n: u32) -> Stepped
-        ensures { λ r. ⌜ r ≡ stepOf self (Clocks n) ⌝ }
+    // n clocks at once, begun.
+    fn begin_clocks(self, n: u32) -> Begun
+        ensures { λ b. ⌜ finished b self ≡ stepOf self (Clocks n) ⌝ }
     {
         let l = self.lines;
         let i = self.interrupts;
@@ -174,15 +189,15 @@ impl Device {
         let next = u.timers;
         let m = u.timeouts;
         let d = Device {
-            lines: l,
+            lines: l.written_out(),
             interrupts: i.raise(m.channels()),
-            timers: next,
+            timers: next.written_out(),
         };
-        Stepped {
+        Begun::Whole(Stepped {
             device: d,
             answer: Answer::Done,
             timeouts: m,
-        }
+        })
     }
 
     pub fn read(self, r: Register) -> u8
@@ -243,11 +258,7 @@ impl Device {
         let after = k.interrupts;
         let mut d = self;
         d.interrupts = after;
-        Begun::Whole(Stepped {
-            device: d,
-            answer: replied(reply),
-            timeouts: Timeouts::zero(),
-        })
+        whole(d, replied(reply), Timeouts::zero())
     }
 
     // One event, begun.
@@ -258,15 +269,11 @@ impl Device {
         let i = self.interrupts;
         match e {
             Event::Reset => done_with(self.reset()),
-            Event::Read(r) => Begun::Whole(Stepped {
-                device: self,
-                answer: Answer::Data(self.read(r)),
-                timeouts: Timeouts::zero(),
-            }),
+            Event::Read(r) => whole(self, Answer::Data(self.read(r)), Timeouts::zero()),
             Event::Write(r, v) => self.begin_write(r, v),
             Event::Level(k, high) => Begun::Signals(l.with_level(k, high)),
             Event::Input(k, high) => Begun::Signals(l.with_input(k, high)),
-            Event::Clocks(n) => Begun::Whole(self.clocks(n)),
+            Event::Clocks(n) => self.begin_clocks(n),
             Event::Acknowledge(iei) => self.begin_acknowledge(iei),
             Event::Raise(c) => {
                 let mut d = self;

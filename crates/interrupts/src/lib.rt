@@ -177,6 +177,19 @@ impl Interrupts {
         }
     }
 
+    // The same interrupts, written out field by field (D87).
+    pub fn written_out(self) -> Interrupts
+        ensures { λ r. ⌜ r ≡ self ⌝ }
+    {
+        Interrupts {
+            enabled: self.enabled,
+            pending: self.pending,
+            service: self.service,
+            mask: self.mask,
+            vector: self.vector,
+        }
+    }
+
     fn write_enabled(self, h: Half, v: u8) -> Interrupts
         ensures { λ r. ⌜ r ≡ enabledWritten h v self ⌝ }
     {

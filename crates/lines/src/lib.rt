@@ -96,6 +96,20 @@ impl Lines {
         }
     }
 
+    // The same lines, written out field by field (D87).
+    pub fn written_out(self) -> Lines
+        ensures { λ r. ⌜ r ≡ self ⌝ }
+    {
+        Lines {
+            gpdr: self.gpdr,
+            aer: self.aer,
+            ddr: self.ddr,
+            levels: self.levels,
+            tai: self.tai,
+            tbi: self.tbi,
+        }
+    }
+
     pub fn reset(self) -> Lines
         ensures { λ r. ⌜ r ≡ resetLines self ⌝ }
     {

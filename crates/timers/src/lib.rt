@@ -63,20 +63,6 @@ fn pulse_if(b: bool, t: Timer) -> Timer
     t
 }
 
-// The timer as it is, written out field by field: the compiler then holds its fields apart, which a
-// copy of the whole would tie together in every event.
-fn unchanged(t: Timer) -> Timer
-    ensures { λ r. ⌜ r ≡ t ⌝ }
-{
-    Timer {
-        mode: t.mode,
-        reload: t.reload,
-        counter: t.counter,
-        position: t.position,
-        output: t.output,
-    }
-}
-
 impl Timeouts {
     pub fn zero() -> Timeouts
         ensures { λ r. ⌜ r ≡ none ⌝ }
@@ -135,6 +121,22 @@ impl Timers {
         }
     }
 
+    // The same timers, written out field by field (D87).
+    pub fn written_out(self) -> Timers
+        ensures { λ r. ⌜ r ≡ self ⌝ }
+    {
+        let a = self.a;
+        let b = self.b;
+        let c = self.c;
+        let d = self.d;
+        Timers {
+            a: a.written_out(),
+            b: b.written_out(),
+            c: c.written_out(),
+            d: d.written_out(),
+        }
+    }
+
     // n clocks at once; A's and B's inputs are active or not all the while.
     pub fn clocks(self, tai: bool, tbi: bool, n: u32) -> Advanced
         ensures { λ r. ⌜ r ≡ clockedBy tai tbi n self ⌝ }
@@ -175,6 +177,8 @@ impl Timers {
     {
         let of_a = self.a;
         let of_b = self.b;
+        let c = self.c;
+        let d = self.d;
         let n = Timeouts {
             a: once(bits::both(a, of_a.is_due())),
             b: once(bits::both(b, of_b.is_due())),
@@ -184,8 +188,8 @@ impl Timers {
         let t = Timers {
             a: pulse_if(a, of_a),
             b: pulse_if(b, of_b),
-            c: unchanged(self.c),
-            d: unchanged(self.d),
+            c: c.written_out(),
+            d: d.written_out(),
         };
         Advanced {
             timers: t,

@@ -1,4 +1,5 @@
 -- `device::done_with` meets its contract. Assumes nothing.
+use mathlib.Core.Path.{_∙_}
 use borrow.Author.Needs.{needs}
 use Rattle.events.specs.declared.Answer.the-variants.{Done}
 use Rattle.device.specs.declared.Begun.the-variants.{Whole}
@@ -6,11 +7,12 @@ use Rattle.device.proofs.done_with.Statement.{statement}
 use Rattle.device.proofs.done_with.Tie as tie
 
 returns : tie.Need-returns
-returns c = λ k. Whole (record { device = c .before .args .d; answer = Done; timeouts = c .zero .ensures k })
+returns c = c .whole .ensures ∙ (λ k. Whole (record { device = c .before .before .args .d; answer = Done; timeouts = c .before .zero .ensures k }))
 
 pub done-with-spec : {M : Type 1} → statement M
 done-with-spec =
     tie.close
     (tie.spec
+    (λ c κs. search needs)
     (λ c κs. search needs)
     returns)

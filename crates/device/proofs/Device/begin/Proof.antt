@@ -26,7 +26,7 @@ returns c = did (c .before .before .before .before .before .before .args .self) 
 
 returns-2 : tie.Need-returns-2
 unfolding stepOf
-returns-2 c = did (c .before .before .before .before .before .before .before .args .self) (c .before .before .before .before .before .before .before .args .e) _ (c .before .before .before .e .given .1) (λ k. record { device = c .before .before .before .before .before .before .before .args .self; answer = Data (c .before .read .ensures k); timeouts = c .zero .ensures k })
+returns-2 c = did (c .before .before .before .before .before .before .before .before .args .self) (c .before .before .before .before .before .before .before .before .args .e) _ (c .before .before .before .before .e .given .1) (ap (λ (b : Begun). finished b (c .before .before .before .before .before .before .before .before .args .self)) (c .whole .ensures) ∙ (λ k. record { device = c .before .before .before .before .before .before .before .before .args .self; answer = Data (c .before .before .read .ensures k); timeouts = c .before .zero .ensures k }))
 
 returns-3 : tie.Need-returns-3
 unfolding stepOf
@@ -41,7 +41,7 @@ unfolding stepOf
 returns-5 c = did (c .before .before .before .before .before .before .args .self) (c .before .before .before .before .before .before .args .e) _ (c .before .before .e4 .given .1) (ap (λ l. signalStep l (c .before .before .before .before .before .before .args .self)) (c .with-input .ensures))
 
 returns-6 : tie.Need-returns-6
-returns-6 c = did (c .before .before .before .before .before .before .args .self) (c .before .before .before .before .before .before .args .e) _ (c .before .before .e5 .given .1) (c .clocks .ensures)
+returns-6 c = did (c .before .before .before .before .before .before .args .self) (c .before .before .before .before .before .before .args .e) _ (c .before .before .e5 .given .1) (c .begin-clocks .ensures)
 
 returns-7 : tie.Need-returns-7
 returns-7 c = did (c .before .before .before .before .before .before .args .self) (c .before .before .before .before .before .before .args .e) _ (c .before .before .e6 .given .1) (c .begin-acknowledge .ensures)
@@ -58,6 +58,7 @@ begin-spec =
     (λ c κs. search needs)
     (λ c κs. search needs)
     (λ c. search needs)
+    (λ c κs. search needs)
     (λ c κs. search needs)
     (λ c κs. search needs)
     (λ c. search needs)

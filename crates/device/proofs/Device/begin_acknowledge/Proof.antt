@@ -1,6 +1,8 @@
 -- `Device::begin_acknowledge` meets its contract. Assumes nothing.
-use mathlib.Core.Path.{_∙_}
+use mathlib.Core.Path.{ap, _∙_}
 use borrow.Author.Needs.{needs}
+use Rattle.device.specs.Private.{finished}
+use Rattle.device.specs.declared.Begun.{Begun}
 use Rattle.device.specs.Events.{replied, stepOf}
 use Rattle.device.specs.Registers.{withInterrupts}
 use Rattle.device.proofs.Device.begin_acknowledge.Statement.{statement}
@@ -9,17 +11,18 @@ use Rattle.device.proofs.Device.begin_acknowledge.Tie as tie
 returns : tie.Need-returns
 unfolding stepOf
 returns c =
-    let d = c .before .before .before .before .before .args .self in
-    λ k. record {
-      device = withInterrupts (c .before .before .before .acknowledge .ensures k .interrupts) d;
-      answer = (c .before .replied .ensures ∙ (λ i. replied (c .before .before .before .acknowledge .ensures i .reply))) k;
-      timeouts = c .zero .ensures k;
-    }
+    let d = c .before .before .before .before .before .before .args .self in
+    ap (λ (b : Begun). finished b d) (c .whole .ensures) ∙ (λ k. record {
+      device = withInterrupts (c .before .before .before .before .acknowledge .ensures k .interrupts) d;
+      answer = (c .before .before .replied .ensures ∙ (λ i. replied (c .before .before .before .before .acknowledge .ensures i .reply))) k;
+      timeouts = c .before .zero .ensures k;
+    })
 
 pub begin-acknowledge-spec : {M : Type 1} → statement M
 begin-acknowledge-spec =
     tie.close
     (tie.spec
+    (λ c κs. search needs)
     (λ c κs. search needs)
     (λ c κs. search needs)
     (λ c κs. search needs)

@@ -1,0 +1,23 @@
+-- `device::whole` meets its contract. Assumes nothing.
+use borrow.Author.Needs.{needs}
+use Rattle.device.specs.declared.Begun.the-variants.{Whole}
+use Rattle.device.proofs.whole.Statement.{statement}
+use Rattle.device.proofs.whole.Tie as tie
+
+returns : tie.Need-returns
+returns c =
+    let a = c .before .before .before .before .before .before .args in
+    λ k. Whole (record {
+      device = record { lines = c .before .before .written-out .ensures k; interrupts = c .before .written-out2 .ensures k; timers = c .written-out3 .ensures k };
+      answer = a .a;
+      timeouts = a .n;
+    })
+
+pub whole-spec : {M : Type 1} → statement M
+whole-spec =
+    tie.close
+    (tie.spec
+    (λ c κs. search needs)
+    (λ c κs. search needs)
+    (λ c κs. search needs)
+    returns)

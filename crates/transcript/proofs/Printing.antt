@@ -7,16 +7,17 @@ use native.Mathlib.Omega.{arith}
 use lib.ListN.{length, take, drop, length-append, length-drop, take-append-drop}
 use lib.Seq.{length-take-le, take-at, drop-at, drop-drop}
 use Rattle.device.specs.declared.Device.{Device}
-use Rattle.device.specs.declared.Event.{Event}
+use Rattle.events.specs.declared.Event.{Event}
 use Rattle.device.specs.Events.{freshDevice, stepOf, imageRule}
 use Rattle.demands.proofs.Rule.{every-event-keeps-the-rule}
 use Rattle.demands.proofs.Accepted.{fresh-keeps-the-rule}
-use Rattle.tape.specs.declared.Decoded.the-variants.{Valid}
+use Rattle.demands.proofs.Records.{record-row, bytes-of}
+use Rattle.record.specs.declared.Decoded.the-variants.{Valid}
 use Rattle.tape.specs.declared.Checked.the-variants.{Fine}
-use Rattle.tape.specs.Records.{recordBytes, decoded, firstBad, events}
+use Rattle.record.specs.Records.{recordBytes}
+use Rattle.tape.specs.Tapes.{decoded, firstBad, events}
 use Rattle.tape.proofs.Tapes.{check-valid, event-valid, events-none}
 use Rattle.transcript.specs.Transcript.{stepLine, linesOf}
-use Rattle.transcript.proofs.Decoding.{sound}
 
 module _ (tape out₀ : List ℕ) (n : ℕ) where
   -- the text of all n records
@@ -91,7 +92,7 @@ module _ (tape out₀ : List ℕ) (n : ℕ) where
       pub going-on : Going after (stepOf d e .device) r (i + 1)
       going-on = record {
         within = omega arith;
-        rule = every-event-keeps-the-rule d e (sound tape (i * recordBytes) e p .bytes) (g .rule);
+        rule = every-event-keeps-the-rule d e (bytes-of (rw p at (record-row tape i))) (g .rule);
         long =
             ap length put
             ∙ length-append (take at out ++ line) (drop r out)

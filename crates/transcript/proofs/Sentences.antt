@@ -4,8 +4,8 @@ use mathlib.Core.Path.{_≡_, refl}
 use mathlib.Core.List.{List, []}
 use lib.ListN.{length}
 use Rattle.text.specs.Lines.{bytes, decimalIn, decimal, refusedLine}
-use Rattle.tape.specs.Records.{records, firstBad, events}
-use Rattle.tape.specs.Runs.{fitting, tapeResult}
+use Rattle.tape.specs.Tapes.{fitting, records, firstBad, events}
+use Rattle.tape.specs.Runs.{tapeResult}
 use Rattle.tape.proofs.Checks.{uneven, too-long}
 use Rattle.transcript.specs.Transcript.{linesOf, verdict, transcriptOf}
 

@@ -1,15 +1,17 @@
 -- The whole text in its buffer: refused, one line; accepted, the lines of its records. Assumes nothing.
 use Prim.Native.Nat.{ℕ, zero-le, _+_, _*_, _/_, _%_, _≤_, _<_}
 use mathlib.Core.Path.{_≡_, refl, sym, ap, _∙_}
+use mathlib.Core.Bool.{true}
 use mathlib.Core.List.{List, _++_}
 use native.Mathlib.Omega.{arith}
 use lib.ListN.{length, drop}
-use borrow.Author.Tests.{lt-ltb, le-ltb, eq-eqb, ne-eqb}
+use borrow.Author.Tests.{lt-ltb, le-ltb, le-leb, eq-eqb, ne-eqb}
+use Rattle.bits.proofs.Bits.{joined}
 use Rattle.device.specs.Events.{freshDevice}
 use Rattle.text.specs.Lines.{refusedLine, written, writtenLength, Counts}
 use Rattle.text.proofs.Whole.{counts, length-long}
 use Rattle.tape.specs.declared.Checked.the-variants.{Fine}
-use Rattle.tape.specs.Records.{records, firstBad, eventsOf}
+use Rattle.tape.specs.Tapes.{fitting, records, firstBad, eventsOf}
 use Rattle.tape.specs.Runs.{tapeResult}
 use Rattle.tape.proofs.Checks.{passed}
 use Rattle.transcript.specs.Transcript.{linesOf, verdict, transcriptOf, printed, printedLength}
@@ -51,10 +53,10 @@ module _ (tape out : List ℕ) where
           held line (refused-is n) r after (p ∙ length-long line out (omega arith)) (q ∙ rw (le-ltb (length out) 64 (omega arith))) k
 
       module _ (z : c ≡ 0) where
-        -- an accepted tape is short, and none of its records is refused
-        pub accepted : (length tape ≤ 4096) × ((firstBad tape 0 (records tape) ≡ Fine) × (32768 ≤ length out))
-        unfolding verdict
-        accepted = let p = passed tape (22 * records tape) (verdict-is ∙ z) in (p .short, (p .fine, h))
+        -- an accepted tape has its length right, and none of its records is refused
+        pub accepted : (fitting tape ≡ true) × ((firstBad tape 0 (records tape) ≡ Fine) × (32768 ≤ length out))
+        unfolding verdict fitting
+        accepted = let p = passed tape (22 * records tape) (verdict-is ∙ z) in (joined _ _ (eq-eqb _ _ (p .even)) (le-leb _ _ (p .short)), (p .fine, h))
 
         abbrev text : List ℕ
         text = linesOf 0 freshDevice (eventsOf tape)

@@ -5,18 +5,18 @@ use mathlib.Core.List.{List, [], _∷_, _++_}
 use lib.Dec.{eqb, ltb}
 use lib.ListN.{length, drop}
 use Rattle.device.specs.declared.Device.{Device}
-use Rattle.device.specs.declared.Event.{Event}
+use Rattle.events.specs.declared.Event.{Event}
 use Rattle.device.specs.declared.Stepped.{Stepped}
-use Rattle.device.specs.Events.{freshDevice, stepOf, irqOf, outputsOf}
+use Rattle.device.specs.Events.{freshDevice, stepOf, irqOf, shownOutputs}
 use Rattle.text.specs.Lines.{lineOf, refusedLine}
-use Rattle.tape.specs.Records.{records, eventsOf}
-use Rattle.tape.specs.Answers.{answerBytes}
+use Rattle.tape.specs.Tapes.{records, eventsOf}
+use Rattle.answer.specs.Answers.{answerBytes}
 use Rattle.tape.specs.Runs.{tapeResult}
 
 -- ---- the lines of an accepted tape
 -- "one line a record": its answer and its timeout counts, and IRQ and outputs after it
 unfoldable pub stepLine : ℕ → Stepped → List ℕ
-stepLine i s = lineOf i (s .answer) (irqOf (s .device)) (outputsOf (s .device)) (s .timeouts)
+stepLine i s = lineOf i (s .answer) (irqOf (s .device)) (shownOutputs (s .device)) (s .timeouts)
 
 -- the lines of events one after the other from a device, the first of index i
 unfoldable pub linesOf : ℕ → Device → List Event → List ℕ

@@ -1,22 +1,23 @@
 // The whole text of the replay program for a tape, at the start of a buffer that the caller lends.
 // The text stands in specs/Transcript.antt. A buffer of 32,768 bytes holds the text of every tape;
 // a shorter one stays as it was.
-use device::Answer;
 use device::Device;
-use device::Event;
 use device::Outcome;
 use device::Stepped;
-use device::Timeouts;
-use tape::Decoded;
+use events::Answer;
+use events::Event;
+use tape::Found;
+use timers::Timeouts;
 ghost use mathlib.Core.Path.{_≡_};
 ghost use mathlib.Core.Bool.{true};
 ghost use mathlib.Core.List.{_++_};
 ghost use Prim.Native.Nat.{_+_, _≤_, _<_};
 ghost use lib.ListN.{length, take, drop};
-ghost use Rattle.device.specs.Events.{freshDevice, stepOf, imageRule, inRange};
+ghost use Rattle.events.specs.Ranges.{inRange};
+ghost use Rattle.device.specs.Events.{freshDevice, stepOf, imageRule};
 ghost use Rattle.text.specs.Lines.{Counts};
 ghost use Rattle.tape.specs.declared.Checked.the-variants.{Fine};
-ghost use Rattle.tape.specs.Records.{records, firstBad, eventsOf};
+ghost use Rattle.tape.specs.Tapes.{fitting, records, firstBad, eventsOf};
 ghost use Rattle.transcript.specs.Transcript.{stepLine, linesOf, transcriptOf, enough, printed, printedLength};
 
 // 512 lines of at most 64 bytes.
@@ -82,20 +83,20 @@ fn put_line(out: &mut [u8], at: usize, i: usize, s: Stepped) -> usize
 
 // Puts the lines of a checked tape, and returns the index after them.
 fn put_lines(tape: &[u8], out: &mut [u8], lending: bool) -> usize
-    requires { ⌜ length (now tape) ≤ 4096 ⌝ }
+    requires { ⌜ fitting (now tape) ≡ true ⌝ }
     requires { ⌜ firstBad (now tape) 0 (records (now tape)) ≡ Fine ⌝ }
     requires { ⌜ enough ≤ length (now out) ⌝ }
     ensures { λ r. ⌜ r ≡ length (linesOf 0 freshDevice (eventsOf (now (tape .entry)))) ⌝ }
     ensures { λ r. ⌜ r ≤ length (now (out .exit)) ⌝ }
     ensures { λ r. ⌜ now (out .exit) ≡ linesOf 0 freshDevice (eventsOf (now (tape .entry))) ++ drop r (now (out .entry)) ⌝ }
 {
-    let n = tape.len() / tape::RECORD_BYTES;
+    let n = tape.len() / record::RECORD_BYTES;
     let mut d = Device::fresh();
     let mut at = 0;
     let mut i = 0;
     while i < n {
         let x = tape::record_at(tape, i);
-        let Decoded::Valid(e) = x else {
+        let Found::Means(e) = x else {
             return 0;
         };
         let s = step(d, e, lending);

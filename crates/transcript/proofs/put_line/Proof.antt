@@ -8,7 +8,7 @@ use borrow.Author.Needs.{needs}
 use borrow.Rule.Slice.PartMut.{midOf, putMid}
 use lib.ListN.{length, take, drop}
 use Rattle.device.specs.declared.Stepped.{Stepped}
-use Rattle.device.specs.Events.{irqOf, outputsOf}
+use Rattle.device.specs.Events.{irqOf, shownOutputs}
 use Rattle.text.specs.Lines.{lineOf, written, writtenLength}
 use Rattle.transcript.specs.Transcript.{stepLine}
 use Rattle.transcript.proofs.Places.{line-long, line-fits, laid}
@@ -31,7 +31,7 @@ module _ (at i : ℕ) (s : Stepped) (out : List ℕ) (h : at + 64 ≤ length out
       )
 
 -- the words of the line are the step's
-line-is : (i : ℕ) (s : Stepped) (irq : Bool) (outputs : ℕ) → irq ≡ irqOf (s .device) → outputs ≡ outputsOf (s .device) → lineOf i (s .answer) irq outputs (s .timeouts) ≡ stepLine i s
+line-is : (i : ℕ) (s : Stepped) (irq : Bool) (outputs : ℕ) → irq ≡ irqOf (s .device) → outputs ≡ shownOutputs (s .device) → lineOf i (s .answer) irq outputs (s .timeouts) ≡ stepLine i s
 unfolding stepLine
 line-is i s irq outputs p q = rw (p, q)
 

@@ -13,11 +13,12 @@ use Rattle.demands.proofs.Rule.{every-event-keeps-the-rule}
 use Rattle.demands.proofs.Accepted.{fresh-keeps-the-rule}
 use Rattle.demands.proofs.Records.{record-row, bytes-of}
 use Rattle.record.specs.declared.Decoded.the-variants.{Valid}
+use Rattle.text.specs.Lines.{lineMost}
 use Rattle.tape.specs.declared.Checked.the-variants.{Fine}
 use Rattle.record.specs.Records.{recordBytes}
 use Rattle.tape.specs.Tapes.{decoded, firstBad, events}
 use Rattle.tape.proofs.Tapes.{check-valid, event-valid, events-none}
-use Rattle.transcript.specs.Transcript.{stepLine, linesOf}
+use Rattle.transcript.specs.Transcript.{recordsMost, enough, stepLine, linesOf}
 
 module _ (tape out₀ : List ℕ) (n : ℕ) where
   -- the text of all n records
@@ -29,7 +30,7 @@ module _ (tape out₀ : List ℕ) (n : ℕ) where
     pub within : i ≤ n
     pub rule : imageRule d ≡ true
     pub long : length out ≡ length out₀
-    pub room : at ≤ 64 * i
+    pub room : at ≤ lineMost * i
     pub clear : firstBad tape i (n - i) ≡ Fine
     pub front : take at out ++ linesOf i d (events tape i (n - i)) ≡ whole
     pub rest : drop at out ≡ drop at out₀
@@ -49,11 +50,11 @@ module _ (tape out₀ : List ℕ) (n : ℕ) where
   }
 
   -- a line more fits
-  pub going-fits : (out : List ℕ) (d : Device) (at i : ℕ) → Going out d at i → i < n → n ≤ 512 → 32768 ≤ length out₀ → at + 64 ≤ length out
+  pub going-fits : (out : List ℕ) (d : Device) (at i : ℕ) → Going out d at i → i < n → n ≤ recordsMost → enough ≤ length out₀ → at + lineMost ≤ length out
   going-fits out d at i g h few fits = let l = g .long in let r = g .room in omega arith
 
   -- the last record done
-  module _ (out : List ℕ) (d : Device) (at i : ℕ) (g : Going out d at i) (h : n ≤ i) (few : n ≤ 512) (fits : 32768 ≤ length out₀) where
+  module _ (out : List ℕ) (d : Device) (at i : ℕ) (g : Going out d at i) (h : n ≤ i) (few : n ≤ recordsMost) (fits : enough ≤ length out₀) where
     pub text-fits : at ≤ length out
     text-fits = let l = g .long in let r = g .room in let w = g .within in omega arith
 
@@ -71,7 +72,7 @@ module _ (tape out₀ : List ℕ) (n : ℕ) where
     text-put = sym (take-append-drop at out) ∙ ap₂ (λ (x y : List ℕ). x ++ y) text-is (g .rest)
 
   -- one record more
-  module _ (out : List ℕ) (d : Device) (at i : ℕ) (g : Going out d at i) (h : i < n) (few : n ≤ 512) (fits : 32768 ≤ length out₀) (e : Event) (p : decoded tape (i * recordBytes) ≡ Valid e) where
+  module _ (out : List ℕ) (d : Device) (at i : ℕ) (g : Going out d at i) (h : i < n) (few : n ≤ recordsMost) (fits : enough ≤ length out₀) (e : Event) (p : decoded tape (i * recordBytes) ≡ Valid e) where
     abbrev line : List ℕ
     line = stepLine i (stepOf d e)
 
@@ -82,7 +83,7 @@ module _ (tape out₀ : List ℕ) (n : ℕ) where
     unfolding linesOf
     lines-here = ap (linesOf i d) (event-valid tape i n h e p)
 
-    module _ (r : ℕ) (after : List ℕ) (to : r ≡ at + length line) (most : r ≤ at + 64) (put : after ≡ (take at out ++ line) ++ drop r out) where
+    module _ (r : ℕ) (after : List ℕ) (to : r ≡ at + length line) (most : r ≤ at + lineMost) (put : after ≡ (take at out ++ line) ++ drop r out) where
       short : at ≤ length out
       short = omega (arith, going-fits out d at i g h few fits)
 

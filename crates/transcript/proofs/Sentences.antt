@@ -4,7 +4,9 @@ use mathlib.Core.Path.{_≡_, refl}
 use mathlib.Core.List.{List, []}
 use lib.ListN.{length}
 use Rattle.text.specs.Lines.{bytes, decimalIn, decimal, refusedLine}
-use Rattle.tape.specs.Tapes.{fitting, records, firstBad, events}
+use Rattle.record.specs.Records.{recordBytes}
+use Rattle.answer.specs.Answers.{answerBytes}
+use Rattle.tape.specs.Tapes.{tapeMost, fitting, records, firstBad, events}
 use Rattle.tape.specs.Runs.{tapeResult}
 use Rattle.tape.proofs.Checks.{uneven, too-long}
 use Rattle.transcript.specs.Transcript.{linesOf, verdict, transcriptOf}
@@ -20,11 +22,11 @@ unfolding transcriptOf refusedLine decimal decimalIn
 refusal-4 tape e = rw e
 
 -- "input longer than 4,096 bytes is refusal 4"
-pub too-long-input : (tape : List ℕ) → 4096 < length tape → transcriptOf tape ≡ bytes "refused 4 0\n"
+pub too-long-input : (tape : List ℕ) → tapeMost < length tape → transcriptOf tape ≡ bytes "refused 4 0\n"
 unfolding verdict
-too-long-input tape h = refusal-4 tape (too-long tape (22 * records tape) h)
+too-long-input tape h = refusal-4 tape (too-long tape (answerBytes * records tape) h)
 
 -- "tape length not a multiple of 8"
-pub uneven-input : (tape : List ℕ) → (length tape % 8 ≡ 0 → ⊥) → transcriptOf tape ≡ bytes "refused 4 0\n"
+pub uneven-input : (tape : List ℕ) → (length tape % recordBytes ≡ 0 → ⊥) → transcriptOf tape ≡ bytes "refused 4 0\n"
 unfolding verdict
-uneven-input tape h = refusal-4 tape (uneven tape (22 * records tape) h)
+uneven-input tape h = refusal-4 tape (uneven tape (answerBytes * records tape) h)

@@ -8,13 +8,14 @@ use lib.ListN.{length, drop}
 use borrow.Author.Tests.{lt-ltb, le-ltb, le-leb, eq-eqb, ne-eqb}
 use Rattle.bits.proofs.Bits.{joined}
 use Rattle.device.specs.Events.{freshDevice}
-use Rattle.text.specs.Lines.{refusedLine, written, writtenLength, Counts}
+use Rattle.text.specs.Lines.{lineMost, refusedLine, written, writtenLength, Counts}
 use Rattle.text.proofs.Whole.{counts, length-long}
+use Rattle.answer.specs.Answers.{answerBytes}
 use Rattle.tape.specs.declared.Checked.the-variants.{Fine}
 use Rattle.tape.specs.Tapes.{fitting, records, firstBad, eventsOf}
 use Rattle.tape.specs.Runs.{tapeResult}
 use Rattle.tape.proofs.Checks.{passed}
-use Rattle.transcript.specs.Transcript.{linesOf, verdict, transcriptOf, printed, printedLength}
+use Rattle.transcript.specs.Transcript.{recordsMost, answersMost, enough, linesOf, verdict, transcriptOf, printed, printedLength}
 use Rattle.transcript.proofs.Verdicts.{room-enough, verdict-low}
 
 -- what a call owes of its result and of the buffer
@@ -22,16 +23,16 @@ abbrev pub Printed : List ℕ → List ℕ → List ℕ → ℕ → Type 0
 Printed tape out after r = (r ≡ printedLength (transcriptOf tape) out) × ((after ≡ printed (transcriptOf tape) out) × Counts r after)
 
 module _ (tape out : List ℕ) where
-  pub too-short : length out < 32768 → Printed tape out out 0
+  pub too-short : length out < enough → Printed tape out out 0
   unfolding printed printedLength
-  too-short h = (rw (lt-ltb (length out) 32768 h), (rw (lt-ltb (length out) 32768 h), (zero-le, refl)))
+  too-short h = (rw (lt-ltb (length out) enough h), (rw (lt-ltb (length out) enough h), (zero-le, refl)))
 
-  module _ (h : 32768 ≤ length out) where
+  module _ (h : enough ≤ length out) where
     held : (text : List ℕ) → transcriptOf tape ≡ text → (r : ℕ) (after : List ℕ) → r ≡ length text → after ≡ text ++ drop (length text) out → Counts r after → Printed tape out after r
     unfolding printed printedLength
-    held text e r after p q k = (p ∙ rw (le-ltb (length out) 32768 h, e), (q ∙ rw (le-ltb (length out) 32768 h, e), k))
+    held text e r after p q k = (p ∙ rw (le-ltb (length out) enough h, e), (q ∙ rw (le-ltb (length out) enough h, e), k))
 
-    module _ (c : ℕ) (is : c ≡ tapeResult tape 11264) where
+    module _ (c : ℕ) (is : c ≡ tapeResult tape answersMost) where
       verdict-is : verdict tape ≡ c
       verdict-is = sym (is ∙ room-enough tape)
 
@@ -42,7 +43,7 @@ module _ (tape out : List ℕ) where
       refused-is : (c ≡ 0 → ⊥) → transcriptOf tape ≡ line
       unfolding transcriptOf
       refused-is n =
-          let low : c < 131072 = rw verdict-is at (verdict-low tape) in
+          let low : c < 256 * recordsMost = rw verdict-is at (verdict-low tape) in
           let same : c / 256 ≡ c / 256 % 65536 = omega arith in
           rw (verdict-is, ne-eqb c 0 n) (ap (refusedLine (c % 256)) same)
 
@@ -50,13 +51,13 @@ module _ (tape out : List ℕ) where
       pub refused : (c ≡ 0 → ⊥) → (r : ℕ) (after : List ℕ) → r ≡ writtenLength line out → after ≡ written line out → Counts r after → Printed tape out after r
       unfolding written
       refused n r after p q k =
-          held line (refused-is n) r after (p ∙ length-long line out (omega arith)) (q ∙ rw (le-ltb (length out) 64 (omega arith))) k
+          held line (refused-is n) r after (p ∙ length-long line out (omega arith)) (q ∙ rw (le-ltb (length out) lineMost (omega arith))) k
 
       module _ (z : c ≡ 0) where
         -- an accepted tape has its length right, and none of its records is refused
-        pub accepted : (fitting tape ≡ true) × ((firstBad tape 0 (records tape) ≡ Fine) × (32768 ≤ length out))
+        pub accepted : (fitting tape ≡ true) × ((firstBad tape 0 (records tape) ≡ Fine) × (enough ≤ length out))
         unfolding verdict fitting
-        accepted = let p = passed tape (22 * records tape) (verdict-is ∙ z) in (joined _ _ (eq-eqb _ _ (p .even)) (le-leb _ _ (p .short)), (p .fine, h))
+        accepted = let p = passed tape (answerBytes * records tape) (verdict-is ∙ z) in (joined _ _ (eq-eqb _ _ (p .even)) (le-leb _ _ (p .short)), (p .fine, h))
 
         abbrev text : List ℕ
         text = linesOf 0 freshDevice (eventsOf tape)

@@ -11,13 +11,14 @@ use Rattle.bits.proofs.Bits.{halves}
 use Rattle.events.specs.declared.Refusal.{Refusal}
 use Rattle.events.specs.declared.Refusal.the-variants.{ImageLength, ImageMark, ImageRule, TapeLength, RecordMark, Kind, Operand, Serial, AnswerLength}
 use Rattle.events.specs.Numbers.{numberOf}
+use Rattle.answer.specs.Answers.{answerBytes}
 use Rattle.tape.specs.declared.Checked.{Checked}
 use Rattle.tape.specs.declared.Checked.the-variants.{Fine, Bad}
 use Rattle.record.specs.Records.{recordBytes}
 use Rattle.tape.specs.Tapes.{tapeMost, fitting, records, firstBad}
 use Rattle.tape.specs.Runs.{code, afterRecords, tapeResult}
 use Rattle.tape.proofs.Checks.{index-below}
-use Rattle.transcript.specs.Transcript.{verdict}
+use Rattle.transcript.specs.Transcript.{recordsMost, answersMost, verdict}
 
 number-low : (r : Refusal) → numberOf r < 10
 number-low ImageLength = lit< tt
@@ -31,27 +32,27 @@ number-low Serial = lit< tt
 number-low AnswerLength = lit< tt
 
 module _ (tape : List ℕ) where
-  pub few : fitting tape ≡ true → records tape ≤ 512
+  pub few : fitting tape ≡ true → records tape ≤ recordsMost
   unfolding fitting
   few e = let h : length tape ≤ tapeMost = leb-true _ _ (halves (eqb (length tape % recordBytes) 0) _ e .1) in omega arith
 
   abbrev n : ℕ
   n = records tape
 
-  pub room-enough : tapeResult tape 11264 ≡ verdict tape
+  pub room-enough : tapeResult tape answersMost ≡ verdict tape
   unfolding tapeResult verdict
   room-enough = go (fitting tape) (firstBad tape 0 n) refl
     where
-      go : (b : Bool) (c : Checked) → fitting tape ≡ b → cond b (afterRecords c n 11264) (code TapeLength 0) ≡ cond b (afterRecords c n (22 * n)) (code TapeLength 0)
-      go true Fine e = let h : n ≤ 512 = few e in rw (le-leb (22 * n) 11264 (omega arith), le-leb (22 * n) (22 * n) (omega arith))
+      go : (b : Bool) (c : Checked) → fitting tape ≡ b → cond b (afterRecords c n answersMost) (code TapeLength 0) ≡ cond b (afterRecords c n (answerBytes * n)) (code TapeLength 0)
+      go true Fine e = let h : n ≤ recordsMost = few e in rw (le-leb (answerBytes * n) answersMost (omega arith), le-leb (answerBytes * n) (answerBytes * n) (omega arith))
       go true (Bad r i) e = refl
       go false c e = refl
 
-  pub verdict-low : verdict tape < 131072
+  pub verdict-low : verdict tape < 256 * recordsMost
   unfolding tapeResult verdict
   verdict-low = go (fitting tape) (firstBad tape 0 n) refl refl
     where
-      go : (b : Bool) (c : Checked) → fitting tape ≡ b → firstBad tape 0 n ≡ c → cond b (afterRecords c n (22 * n)) (code TapeLength 0) < 131072
-      go true Fine e f = rw (le-leb (22 * n) (22 * n) (omega arith)) (lit< tt)
-      go true (Bad r i) e f = let h : n ≤ 512 = few e in let j : i < n = index-below tape n r i f in omega (arith, number-low r)
+      go : (b : Bool) (c : Checked) → fitting tape ≡ b → firstBad tape 0 n ≡ c → cond b (afterRecords c n (answerBytes * n)) (code TapeLength 0) < 256 * recordsMost
+      go true Fine e f = rw (le-leb (answerBytes * n) (answerBytes * n) (omega arith)) (lit< tt)
+      go true (Bad r i) e f = let h : n ≤ recordsMost = few e in let j : i < n = index-below tape n r i f in omega (arith, number-low r)
       go false c e f = lit< tt

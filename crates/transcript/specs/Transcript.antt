@@ -8,10 +8,24 @@ use Rattle.device.specs.declared.Device.{Device}
 use Rattle.events.specs.declared.Event.{Event}
 use Rattle.device.specs.declared.Stepped.{Stepped}
 use Rattle.device.specs.Events.{freshDevice, stepOf, irqOf, shownOutputs}
-use Rattle.text.specs.Lines.{lineOf, refusedLine}
-use Rattle.tape.specs.Tapes.{records, eventsOf}
+use Rattle.text.specs.Lines.{lineMost, lineOf, refusedLine}
+use Rattle.record.specs.Records.{recordBytes}
+use Rattle.tape.specs.Tapes.{tapeMost, records, eventsOf}
 use Rattle.answer.specs.Answers.{answerBytes}
 use Rattle.tape.specs.Runs.{tapeResult}
+
+-- ---- sizes
+-- the records of the longest tape: 512
+abbrev pub recordsMost : ℕ
+recordsMost = tapeMost / recordBytes
+
+-- room for their answers
+abbrev pub answersMost : ℕ
+answersMost = answerBytes * recordsMost
+
+-- and for their lines: a buffer of so many bytes, 32,768, holds every transcript
+abbrev pub enough : ℕ
+enough = recordsMost * lineMost
 
 -- ---- the lines of an accepted tape
 -- "one line a record": its answer and its timeout counts, and IRQ and outputs after it
@@ -36,10 +50,6 @@ transcriptOf tape =
     (refusedLine (verdict tape % 256) (verdict tape / 256))
 
 -- ---- the text in a buffer
--- room for every transcript: 512 lines of at most 64 bytes
-abbrev pub enough : ℕ
-enough = 32768
-
 -- a text at the start of a buffer, the rest as it was; a buffer that is too short for some transcript stays as it was
 unfoldable pub printed : List ℕ → List ℕ → List ℕ
 printed text out = cond (ltb (length out) enough) out (text ++ drop (length text) out)

@@ -1,12 +1,16 @@
 // The whole text of the replay program for a tape, at the start of a buffer that the caller lends.
-// The text stands in specs/Transcript.antt. A buffer of 32,768 bytes holds the text of every tape;
-// a shorter one stays as it was.
+// The text stands in specs/Transcript.antt. A buffer of ENOUGH bytes holds the text of every tape; a
+// shorter one stays as it was.
+use answer::ANSWER_BYTES;
 use device::Device;
 use device::Outcome;
 use device::Stepped;
 use events::Answer;
 use events::Event;
+use record::RECORD_BYTES;
 use tape::Found;
+use tape::TAPE_MOST;
+use text::LINE_MOST;
 use timers::Timeouts;
 ghost use mathlib.Core.Path.{_≡_};
 ghost use mathlib.Core.Bool.{true};
@@ -15,18 +19,17 @@ ghost use Prim.Native.Nat.{_+_, _≤_, _<_};
 ghost use lib.ListN.{length, take, drop};
 ghost use Rattle.events.specs.Ranges.{inRange};
 ghost use Rattle.device.specs.Events.{freshDevice, stepOf, imageRule};
-ghost use Rattle.text.specs.Lines.{Counts};
+ghost use Rattle.text.specs.Lines.{lineMost, Counts};
 ghost use Rattle.tape.specs.declared.Checked.the-variants.{Fine};
 ghost use Rattle.tape.specs.Tapes.{fitting, records, firstBad, eventsOf};
-ghost use Rattle.transcript.specs.Transcript.{stepLine, linesOf, transcriptOf, enough, printed, printedLength};
+ghost use Rattle.transcript.specs.Transcript.{recordsMost, enough, stepLine, linesOf, transcriptOf, printed, printedLength};
 
-// 512 lines of at most 64 bytes.
-const ENOUGH: usize = 32768;
+// The records of the longest tape, the bytes of their answers, and of their lines.
+const RECORDS_MOST: usize = TAPE_MOST / RECORD_BYTES;
 
-const LINE_MOST: usize = 64;
+const ANSWERS_MOST: usize = ANSWER_BYTES * RECORDS_MOST;
 
-// 512 answers of 22 bytes.
-const ANSWERS_MOST: usize = 11264;
+pub const ENOUGH: usize = RECORDS_MOST * LINE_MOST;
 
 // One event through the record lent. It is never refused, since the record keeps the image rule and
 // the operands are in range.
@@ -66,10 +69,10 @@ fn step(d: Device, e: Event, lending: bool) -> Stepped
 
 // Puts the line of record i at index `at`, and returns the index after it.
 fn put_line(out: &mut [u8], at: usize, i: usize, s: Stepped) -> usize
-    requires { ⌜ at + 64 ≤ length (now out) ⌝ }
-    requires { ⌜ i < 512 ⌝ }
+    requires { ⌜ at + lineMost ≤ length (now out) ⌝ }
+    requires { ⌜ i < recordsMost ⌝ }
     ensures { λ r. ⌜ r ≡ at + length (stepLine i s) ⌝ }
-    ensures { λ r. ⌜ r ≤ at + 64 ⌝ }
+    ensures { λ r. ⌜ r ≤ at + lineMost ⌝ }
     ensures { λ r. ⌜ now (out .exit) ≡ (take at (now (out .entry)) ++ stepLine i s) ++ drop r (now (out .entry)) ⌝ }
 {
     let end = at + LINE_MOST;
@@ -90,7 +93,7 @@ fn put_lines(tape: &[u8], out: &mut [u8], lending: bool) -> usize
     ensures { λ r. ⌜ r ≤ length (now (out .exit)) ⌝ }
     ensures { λ r. ⌜ now (out .exit) ≡ linesOf 0 freshDevice (eventsOf (now (tape .entry))) ++ drop r (now (out .entry)) ⌝ }
 {
-    let n = tape.len() / record::RECORD_BYTES;
+    let n = tape.len() / RECORD_BYTES;
     let mut d = Device::fresh();
     let mut at = 0;
     let mut i = 0;

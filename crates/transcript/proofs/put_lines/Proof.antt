@@ -20,8 +20,9 @@ use Rattle.record.proofs.Verdicts.{Holds}
 use Rattle.tape.specs.declared.Found.the-variants.{Means}
 use Rattle.tape.specs.Tapes.{fitting, records, decoded, foundIn, recordAt, eventsOf}
 use Rattle.tape.proofs.Tapes.{check-fine}
+use Rattle.text.specs.Lines.{lineMost}
 use Rattle.demands.proofs.Records.{record-row, range-of}
-use Rattle.transcript.specs.Transcript.{enough, stepLine, linesOf}
+use Rattle.transcript.specs.Transcript.{recordsMost, enough, stepLine, linesOf}
 use Rattle.transcript.proofs.Verdicts.{few}
 use Rattle.transcript.proofs.Printing.{Going, going-begins, going-fits, going-on, text-fits, text-long, text-put}
 use Rattle.transcript.proofs.put_lines.Statement.{statement}
@@ -40,7 +41,7 @@ module _ {tape out₀ out : List ℕ} {d : Device} {at i : ℕ} (fit : fitting t
   ended h = let n = records tape in (text-long tape out₀ n out d at i g h (few tape fit) room, (text-fits tape out₀ n out d at i g h (few tape fit) room, text-put tape out₀ n out d at i g h (few tape fit) room))
 
   module _ (h : i < records tape) where
-    place : (at + 64 ≤ length out) × (i < 512)
+    place : (at + lineMost ≤ length out) × (i < recordsMost)
     place = let f = few tape fit in (going-fits tape out₀ (records tape) out d at i g h f room, omega arith)
 
     -- every record of a checked tape has an event
@@ -58,7 +59,7 @@ module _ {tape out₀ out : List ℕ} {d : Device} {at i : ℕ} (fit : fitting t
       in-range : inRange e ≡ true
       in-range = range-of (rw here at (record-row tape i))
 
-      turned : (s : Stepped) → s ≡ stepOf d e → (r : ℕ) (after : List ℕ) → r ≡ at + length (stepLine i s) → r ≤ at + 64 → after ≡ (take at out ++ stepLine i s) ++ drop r out
+      turned : (s : Stepped) → s ≡ stepOf d e → (r : ℕ) (after : List ℕ) → r ≡ at + length (stepLine i s) → r ≤ at + lineMost → after ≡ (take at out ++ stepLine i s) ++ drop r out
           → Going tape out₀ (records tape) after (s .device) r (i + 1)
       turned s q r after to most put =
           let f = few tape fit in

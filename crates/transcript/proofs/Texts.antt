@@ -15,8 +15,8 @@ use Rattle.tape.specs.declared.Checked.the-variants.{Fine}
 use Rattle.tape.specs.Tapes.{fitting, records, firstBad, eventsOf}
 use Rattle.tape.specs.Runs.{tapeResult}
 use Rattle.tape.proofs.Checks.{passed}
-use Rattle.transcript.specs.Transcript.{recordsMost, answersMost, enough, linesOf, verdict, transcriptOf, printed, printedLength}
-use Rattle.transcript.proofs.Verdicts.{room-enough, verdict-low}
+use Rattle.transcript.specs.Transcript.{recordsMost, answersMost, enough, linesOf, codeOf, transcriptOf, printed, printedLength}
+use Rattle.transcript.proofs.Codes.{room-enough, code-low}
 
 -- what a call owes of its result and of the buffer
 abbrev pub Printed : List ℕ → List ℕ → List ℕ → ℕ → Type 0
@@ -33,8 +33,8 @@ module _ (tape out : List ℕ) where
     held text e r after p q k = (p ∙ rw (le-ltb (length out) enough h, e), (q ∙ rw (le-ltb (length out) enough h, e), k))
 
     module _ (c : ℕ) (is : c ≡ tapeResult tape answersMost) where
-      verdict-is : verdict tape ≡ c
-      verdict-is = sym (is ∙ room-enough tape)
+      code-is : codeOf tape ≡ c
+      code-is = sym (is ∙ room-enough tape)
 
       -- the line of a refused tape, its index from a number that fits 16 bits
       abbrev line : List ℕ
@@ -43,9 +43,9 @@ module _ (tape out : List ℕ) where
       refused-is : (c ≡ 0 → ⊥) → transcriptOf tape ≡ line
       unfolding transcriptOf
       refused-is n =
-          let low : c < 256 * recordsMost = rw verdict-is at (verdict-low tape) in
+          let low : c < 256 * recordsMost = rw code-is at (code-low tape) in
           let same : c / 256 ≡ c / 256 % 65536 = omega arith in
-          rw (verdict-is, ne-eqb c 0 n) (ap (refusedLine (c % 256)) same)
+          rw (code-is, ne-eqb c 0 n) (ap (refusedLine (c % 256)) same)
 
       -- "A refused tape prints only `refused N INDEX`"
       pub refused : (c ≡ 0 → ⊥) → (r : ℕ) (after : List ℕ) → r ≡ writtenLength line out → after ≡ written line out → Counts r after → Printed tape out after r
@@ -56,15 +56,15 @@ module _ (tape out : List ℕ) where
       module _ (z : c ≡ 0) where
         -- an accepted tape has its length right, and none of its records is refused
         pub accepted : (fitting tape ≡ true) × ((firstBad tape 0 (records tape) ≡ Fine) × (enough ≤ length out))
-        unfolding verdict fitting
-        accepted = let p = passed tape (answerBytes * records tape) (verdict-is ∙ z) in (joined _ _ (eq-eqb _ _ (p .even)) (le-leb _ _ (p .short)), (p .fine, h))
+        unfolding codeOf fitting
+        accepted = let p = passed tape (answerBytes * records tape) (code-is ∙ z) in (joined _ _ (eq-eqb _ _ (p .even)) (le-leb _ _ (p .short)), (p .fine, h))
 
         abbrev text : List ℕ
         text = linesOf 0 freshDevice (eventsOf tape)
 
         lines-are : transcriptOf tape ≡ text
         unfolding transcriptOf
-        lines-are = rw (eq-eqb (verdict tape) 0 (verdict-is ∙ z))
+        lines-are = rw (eq-eqb (codeOf tape) 0 (code-is ∙ z))
 
         -- "prints one line a record"
         pub lines : (r : ℕ) (after : List ℕ) → r ≡ length text → r ≤ length after → after ≡ text ++ drop r out → Printed tape out after r

@@ -39,15 +39,15 @@ linesOf i d (e ∷ es) = stepLine i (stepOf d e) ++ linesOf (i + 1) (stepOf d e 
 
 -- ---- the whole text
 -- 0, or 256 × index + number of a refused tape. The answers have all the room they need, so refusal 9 is never given; "input longer than 4,096 bytes is refusal 4".
-unfoldable pub verdict : List ℕ → ℕ
-verdict tape = tapeResult tape (answerBytes * records tape)
+unfoldable pub codeOf : List ℕ → ℕ
+codeOf tape = tapeResult tape (answerBytes * records tape)
 
 -- "It reads a tape from standard input, starts fresh, and prints one line a record, no header"; "A refused tape prints only `refused N INDEX`"; "An empty input prints nothing."
 unfoldable pub transcriptOf : List ℕ → List ℕ
 transcriptOf tape =
-    cond (eqb (verdict tape) 0)
+    cond (eqb (codeOf tape) 0)
     (linesOf 0 freshDevice (eventsOf tape))
-    (refusedLine (verdict tape % 256) (verdict tape / 256))
+    (refusedLine (codeOf tape % 256) (codeOf tape / 256))
 
 -- ---- the text in a buffer
 -- a text at the start of a buffer, the rest as it was; a buffer that is too short for some transcript stays as it was

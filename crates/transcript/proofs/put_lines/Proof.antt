@@ -23,7 +23,7 @@ use Rattle.tape.proofs.Tapes.{check-fine}
 use Rattle.text.specs.Lines.{lineMost}
 use Rattle.demands.proofs.Records.{record-row, range-of}
 use Rattle.transcript.specs.Transcript.{recordsMost, enough, stepLine, linesOf}
-use Rattle.transcript.proofs.Verdicts.{few}
+use Rattle.transcript.proofs.Codes.{few}
 use Rattle.transcript.proofs.Printing.{Going, going-begins, going-fits, going-on, text-fits, text-long, text-put}
 use Rattle.transcript.proofs.put_lines.Statement.{statement}
 use Rattle.transcript.proofs.put_lines.Tie as tie

@@ -1,4 +1,4 @@
--- The verdict over a tape: the answers of the longest tape are room enough for any, and index and number are small. Assumes nothing.
+-- The code of a tape, 0 or its refusal: the answers of the longest tape are room enough for any, and index and number are small. Assumes nothing.
 use Prim.Native.Nat.{ℕ, _*_, _%_, _≤_, _<_}
 use mathlib.Core.Path.{_≡_, refl}
 use mathlib.Core.Bool.{Bool, true, false, cond}
@@ -18,7 +18,7 @@ use Rattle.record.specs.Records.{recordBytes}
 use Rattle.tape.specs.Tapes.{tapeMost, fitting, records, firstBad}
 use Rattle.tape.specs.Runs.{code, afterRecords, tapeResult}
 use Rattle.tape.proofs.Checks.{index-below}
-use Rattle.transcript.specs.Transcript.{recordsMost, answersMost, verdict}
+use Rattle.transcript.specs.Transcript.{recordsMost, answersMost, codeOf}
 
 number-low : (r : Refusal) → numberOf r < 10
 number-low ImageLength = lit< tt
@@ -32,6 +32,7 @@ number-low Serial = lit< tt
 number-low AnswerLength = lit< tt
 
 module _ (tape : List ℕ) where
+  -- a tape of accepted length has no more records than the longest
   pub few : fitting tape ≡ true → records tape ≤ recordsMost
   unfolding fitting
   few e = let h : length tape ≤ tapeMost = leb-true _ _ (halves (eqb (length tape % recordBytes) 0) _ e .1) in omega arith
@@ -39,8 +40,8 @@ module _ (tape : List ℕ) where
   abbrev n : ℕ
   n = records tape
 
-  pub room-enough : tapeResult tape answersMost ≡ verdict tape
-  unfolding tapeResult verdict
+  pub room-enough : tapeResult tape answersMost ≡ codeOf tape
+  unfolding tapeResult codeOf
   room-enough = go (fitting tape) (firstBad tape 0 n) refl
     where
       go : (b : Bool) (c : Checked) → fitting tape ≡ b → cond b (afterRecords c n answersMost) (code TapeLength 0) ≡ cond b (afterRecords c n (answerBytes * n)) (code TapeLength 0)
@@ -48,9 +49,9 @@ module _ (tape : List ℕ) where
       go true (Bad r i) e = refl
       go false c e = refl
 
-  pub verdict-low : verdict tape < 256 * recordsMost
-  unfolding tapeResult verdict
-  verdict-low = go (fitting tape) (firstBad tape 0 n) refl refl
+  pub code-low : codeOf tape < 256 * recordsMost
+  unfolding tapeResult codeOf
+  code-low = go (fitting tape) (firstBad tape 0 n) refl refl
     where
       go : (b : Bool) (c : Checked) → fitting tape ≡ b → firstBad tape 0 n ≡ c → cond b (afterRecords c n (answerBytes * n)) (code TapeLength 0) < 256 * recordsMost
       go true Fine e f = rw (le-leb (answerBytes * n) (answerBytes * n) (omega arith)) (lit< tt)

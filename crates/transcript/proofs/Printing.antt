@@ -8,9 +8,8 @@ use lib.ListN.{length, take, drop, length-append, length-drop, take-append-drop}
 use lib.Seq.{length-take-le, take-at, drop-at, drop-drop}
 use Rattle.device.specs.declared.Device.{Device}
 use Rattle.events.specs.declared.Event.{Event}
-use Rattle.device.specs.Events.{freshDevice, stepOf, imageRule}
+use Rattle.device.specs.Events.{stepOf, imageRule}
 use Rattle.demands.proofs.Rule.{every-event-keeps-the-rule}
-use Rattle.demands.proofs.Accepted.{fresh-keeps-the-rule}
 use Rattle.demands.proofs.Records.{record-row, bytes-of}
 use Rattle.record.specs.declared.Decoded.the-variants.{Valid}
 use Rattle.text.specs.Lines.{lineMost}
@@ -20,10 +19,10 @@ use Rattle.tape.specs.Tapes.{decoded, firstBad, events}
 use Rattle.tape.proofs.Tapes.{check-valid, event-valid, events-none}
 use Rattle.transcript.specs.Transcript.{recordsMost, enough, stepLine, linesOf}
 
-module _ (tape out₀ : List ℕ) (n : ℕ) where
+module _ (start : Device) (tape out₀ : List ℕ) (n : ℕ) where
   -- the text of all n records
   abbrev whole : List ℕ
-  whole = linesOf 0 freshDevice (events tape 0 n)
+  whole = linesOf 0 start (events tape 0 n)
 
   -- after i of n records, at a device, with the lines so far in the first `at` bytes
   pub record Going (out : List ℕ) (d : Device) (at i : ℕ) : Type 0 where
@@ -38,14 +37,14 @@ module _ (tape out₀ : List ℕ) (n : ℕ) where
   from-zero : n - 0 ≡ n
   from-zero = omega arith
 
-  pub going-begins : (d : Device) → d ≡ freshDevice → firstBad tape 0 n ≡ Fine → Going out₀ d 0 0
-  going-begins d f e = record {
+  pub going-begins : imageRule start ≡ true → firstBad tape 0 n ≡ Fine → Going out₀ start 0 0
+  going-begins f e = record {
     within = omega arith;
-    rule = rw f fresh-keeps-the-rule;
+    rule = f;
     long = refl;
     room = omega arith;
     clear = ap (firstBad tape 0) from-zero ∙ e;
-    front = ap₂ (λ (x : Device) (k : ℕ). linesOf 0 x (events tape 0 k)) f from-zero;
+    front = ap (λ (k : ℕ). linesOf 0 start (events tape 0 k)) from-zero;
     rest = refl;
   }
 

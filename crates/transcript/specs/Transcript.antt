@@ -7,7 +7,7 @@ use lib.ListN.{length, drop}
 use Rattle.device.specs.declared.Device.{Device}
 use Rattle.events.specs.declared.Event.{Event}
 use Rattle.device.specs.declared.Stepped.{Stepped}
-use Rattle.device.specs.Events.{freshDevice, stepOf, irqOf, shownOutputs}
+use Rattle.device.specs.Events.{stepOf, irqOf, shownOutputs}
 use Rattle.text.specs.Lines.{lineMost, lineOf, refusedLine}
 use Rattle.record.specs.Records.{recordBytes}
 use Rattle.tape.specs.Tapes.{tapeMost, records, eventsOf}
@@ -42,11 +42,11 @@ linesOf i d (e ∷ es) = stepLine i (stepOf d e) ++ linesOf (i + 1) (stepOf d e 
 unfoldable pub codeOf : List ℕ → ℕ
 codeOf tape = tapeResult tape (answerBytes * records tape)
 
--- "It reads a tape from standard input, starts fresh, and prints one line a record, no header"; "A refused tape prints only `refused N INDEX`"; "An empty input prints nothing."
-unfoldable pub transcriptOf : List ℕ → List ℕ
-transcriptOf tape =
+-- "It reads a tape from standard input, starts fresh, and prints one line a record, no header"; "A refused tape prints only `refused N INDEX`"; "An empty input prints nothing." The device that it starts from is the first argument: the replay program's is a fresh one.
+unfoldable pub transcriptOf : Device → List ℕ → List ℕ
+transcriptOf start tape =
     cond (eqb (codeOf tape) 0)
-    (linesOf 0 freshDevice (eventsOf tape))
+    (linesOf 0 start (eventsOf tape))
     (refusedLine (codeOf tape % 256) (codeOf tape / 256))
 
 -- ---- the text in a buffer

@@ -84,17 +84,18 @@ fn put_line(out: &mut [u8], at: usize, i: usize, s: Stepped) -> usize
     at + text::line(&mut out[at..end], i as u16, a, irq, outputs, n)
 }
 
-// Puts the lines of a checked tape, and returns the index after them.
-fn put_lines(tape: &[u8], out: &mut [u8], lending: bool) -> usize
+// Puts the lines of a checked tape that starts from this device, and returns the index after them.
+fn put_lines(start: Device, tape: &[u8], out: &mut [u8], lending: bool) -> usize
+    requires { ⌜ imageRule start ≡ true ⌝ }
     requires { ⌜ fitting (now tape) ≡ true ⌝ }
     requires { ⌜ firstBad (now tape) 0 (records (now tape)) ≡ Fine ⌝ }
     requires { ⌜ enough ≤ length (now out) ⌝ }
-    ensures { λ r. ⌜ r ≡ length (linesOf 0 freshDevice (eventsOf (now (tape .entry)))) ⌝ }
+    ensures { λ r. ⌜ r ≡ length (linesOf 0 start (eventsOf (now (tape .entry)))) ⌝ }
     ensures { λ r. ⌜ r ≤ length (now (out .exit)) ⌝ }
-    ensures { λ r. ⌜ now (out .exit) ≡ linesOf 0 freshDevice (eventsOf (now (tape .entry))) ++ drop r (now (out .entry)) ⌝ }
+    ensures { λ r. ⌜ now (out .exit) ≡ linesOf 0 start (eventsOf (now (tape .entry))) ++ drop r (now (out .entry)) ⌝ }
 {
     let n = tape.len() / RECORD_BYTES;
-    let mut d = Device::fresh();
+    let mut d = start;
     let mut at = 0;
     let mut i = 0;
     while i < n {
@@ -110,10 +111,11 @@ fn put_lines(tape: &[u8], out: &mut [u8], lending: bool) -> usize
     at
 }
 
-// The text of a tape, with each event's record lent or by value.
-fn print(tape: &[u8], out: &mut [u8], lending: bool) -> usize
-    ensures { λ r. ⌜ r ≡ printedLength (transcriptOf (now (tape .entry))) (now (out .entry)) ⌝ }
-    ensures { λ _. ⌜ now (out .exit) ≡ printed (transcriptOf (now (tape .entry))) (now (out .entry)) ⌝ }
+// The text of a tape that starts from this device, with each event's record lent or by value.
+fn print(start: Device, tape: &[u8], out: &mut [u8], lending: bool) -> usize
+    requires { ⌜ imageRule start ≡ true ⌝ }
+    ensures { λ r. ⌜ r ≡ printedLength (transcriptOf start (now (tape .entry))) (now (out .entry)) ⌝ }
+    ensures { λ _. ⌜ now (out .exit) ≡ printed (transcriptOf start (now (tape .entry))) (now (out .entry)) ⌝ }
     ensures { λ r. ⌜ Counts r (now (out .exit)) ⌝ }
 {
     if out.len() < ENOUGH {
@@ -123,23 +125,23 @@ fn print(tape: &[u8], out: &mut [u8], lending: bool) -> usize
     if c != 0 {
         return text::refused(out, (c % 256) as u8, (c / 256 % 65536) as u16);
     }
-    put_lines(tape, out, lending)
+    put_lines(start, tape, out, lending)
 }
 
 // Writes what the replay program prints for a tape, and returns its length.
 pub fn transcript(tape: &[u8], out: &mut [u8]) -> usize
-    ensures { λ r. ⌜ r ≡ printedLength (transcriptOf (now (tape .entry))) (now (out .entry)) ⌝ }
-    ensures { λ _. ⌜ now (out .exit) ≡ printed (transcriptOf (now (tape .entry))) (now (out .entry)) ⌝ }
+    ensures { λ r. ⌜ r ≡ printedLength (transcriptOf freshDevice (now (tape .entry))) (now (out .entry)) ⌝ }
+    ensures { λ _. ⌜ now (out .exit) ≡ printed (transcriptOf freshDevice (now (tape .entry))) (now (out .entry)) ⌝ }
     ensures { λ r. ⌜ Counts r (now (out .exit)) ⌝ }
 {
-    print(tape, out, false)
+    print(Device::fresh(), tape, out, false)
 }
 
 // The same, with every event through the device record lent.
 pub fn lent_transcript(tape: &[u8], out: &mut [u8]) -> usize
-    ensures { λ r. ⌜ r ≡ printedLength (transcriptOf (now (tape .entry))) (now (out .entry)) ⌝ }
-    ensures { λ _. ⌜ now (out .exit) ≡ printed (transcriptOf (now (tape .entry))) (now (out .entry)) ⌝ }
+    ensures { λ r. ⌜ r ≡ printedLength (transcriptOf freshDevice (now (tape .entry))) (now (out .entry)) ⌝ }
+    ensures { λ _. ⌜ now (out .exit) ≡ printed (transcriptOf freshDevice (now (tape .entry))) (now (out .entry)) ⌝ }
     ensures { λ r. ⌜ Counts r (now (out .exit)) ⌝ }
 {
-    print(tape, out, true)
+    print(Device::fresh(), tape, out, true)
 }

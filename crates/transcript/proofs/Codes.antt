@@ -11,10 +11,10 @@ use Rattle.bits.proofs.Bits.{halves}
 use Rattle.events.specs.declared.Refusal.{Refusal}
 use Rattle.events.specs.declared.Refusal.the-variants.{ImageLength, ImageMark, ImageRule, TapeLength, RecordMark, Kind, Operand, Serial, AnswerLength}
 use Rattle.events.specs.Numbers.{numberOf}
+use Rattle.record.specs.Records.{recordBytes}
 use Rattle.answer.specs.Answers.{answerBytes}
 use Rattle.tape.specs.declared.Checked.{Checked}
 use Rattle.tape.specs.declared.Checked.the-variants.{Fine, Bad}
-use Rattle.record.specs.Records.{recordBytes}
 use Rattle.tape.specs.Tapes.{tapeMost, fitting, records, firstBad}
 use Rattle.tape.specs.Runs.{code, afterRecords, tapeResult}
 use Rattle.tape.proofs.Checks.{index-below}
@@ -32,13 +32,13 @@ number-low Serial = lit< tt
 number-low AnswerLength = lit< tt
 
 module _ (tape : List ℕ) where
-  -- a tape of accepted length has no more records than the longest
-  pub few : fitting tape ≡ true → records tape ≤ recordsMost
-  unfolding fitting
-  few e = let h : length tape ≤ tapeMost = leb-true _ _ (halves (eqb (length tape % recordBytes) 0) _ e .1) in omega arith
-
   abbrev n : ℕ
   n = records tape
+
+  -- a tape of accepted length has no more records than the longest
+  pub few : fitting tape ≡ true → n ≤ recordsMost
+  unfolding fitting
+  few e = let h : length tape ≤ tapeMost = leb-true _ _ (halves (eqb (length tape % recordBytes) 0) _ e .1) in omega arith
 
   pub room-enough : tapeResult tape answersMost ≡ codeOf tape
   unfolding tapeResult codeOf

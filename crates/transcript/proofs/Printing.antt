@@ -6,17 +6,17 @@ use mathlib.Core.List.{List, [], _++_, append-assoc, append-nil}
 use native.Mathlib.Omega.{arith}
 use lib.ListN.{length, take, drop, length-append, length-drop, take-append-drop}
 use lib.Seq.{length-take-le, take-at, drop-at, drop-drop}
-use Rattle.device.specs.declared.Device.{Device}
 use Rattle.events.specs.declared.Event.{Event}
+use Rattle.device.specs.declared.Device.{Device}
 use Rattle.device.specs.Events.{stepOf, imageRule}
-use Rattle.demands.proofs.Rule.{every-event-keeps-the-rule}
-use Rattle.demands.proofs.Records.{record-row, bytes-of}
 use Rattle.record.specs.declared.Decoded.the-variants.{Valid}
+use Rattle.record.specs.Records.{recordBytes}
 use Rattle.text.specs.Lines.{lineMost}
 use Rattle.tape.specs.declared.Checked.the-variants.{Fine}
-use Rattle.record.specs.Records.{recordBytes}
 use Rattle.tape.specs.Tapes.{decoded, firstBad, events}
 use Rattle.tape.proofs.Tapes.{check-valid, event-valid, events-none}
+use Rattle.demands.proofs.Rule.{every-event-keeps-the-rule}
+use Rattle.demands.proofs.Records.{record-row, bytes-of}
 use Rattle.transcript.specs.Transcript.{recordsMost, enough, stepLine, linesOf}
 
 module _ (start : Device) (tape out₀ : List ℕ) (n : ℕ) where

@@ -4,9 +4,9 @@ use mathlib.Core.Path.{_≡_, refl}
 use mathlib.Core.List.{List, []}
 use lib.ListN.{length}
 use Rattle.device.specs.declared.Device.{Device}
-use Rattle.text.specs.Lines.{bytes, decimalIn, decimal, refusedLine}
 use Rattle.record.specs.Records.{recordBytes}
 use Rattle.answer.specs.Answers.{answerBytes}
+use Rattle.text.specs.Lines.{bytes, decimalIn, decimal, refusedLine}
 use Rattle.tape.specs.Tapes.{tapeMost, fitting, records, firstBad, events}
 use Rattle.tape.specs.Runs.{tapeResult}
 use Rattle.tape.proofs.Checks.{uneven, too-long}

@@ -1,5 +1,5 @@
 -- The whole text in its buffer: refused, one line; accepted, the lines of its records. Assumes nothing.
-use Prim.Native.Nat.{ℕ, zero-le, _+_, _*_, _/_, _%_, _≤_, _<_}
+use Prim.Native.Nat.{ℕ, zero-le, _*_, _/_, _%_, _≤_, _<_}
 use mathlib.Core.Path.{_≡_, refl, sym, ap, _∙_}
 use mathlib.Core.Bool.{true}
 use mathlib.Core.List.{List, _++_}
@@ -9,14 +9,14 @@ use borrow.Author.Tests.{lt-ltb, le-ltb, le-leb, eq-eqb, ne-eqb}
 use Rattle.bits.proofs.Bits.{joined}
 use Rattle.device.specs.declared.Device.{Device}
 use Rattle.device.specs.Events.{freshDevice, imageRule}
-use Rattle.demands.proofs.Accepted.{fresh-keeps-the-rule}
+use Rattle.answer.specs.Answers.{answerBytes}
 use Rattle.text.specs.Lines.{lineMost, refusedLine, written, writtenLength, Counts}
 use Rattle.text.proofs.Whole.{counts, length-long}
-use Rattle.answer.specs.Answers.{answerBytes}
 use Rattle.tape.specs.declared.Checked.the-variants.{Fine}
 use Rattle.tape.specs.Tapes.{fitting, records, firstBad, eventsOf}
 use Rattle.tape.specs.Runs.{tapeResult}
 use Rattle.tape.proofs.Checks.{passed}
+use Rattle.demands.proofs.Accepted.{fresh-keeps-the-rule}
 use Rattle.transcript.specs.Transcript.{recordsMost, answersMost, enough, linesOf, codeOf, transcriptOf, printed, printedLength}
 use Rattle.transcript.proofs.Codes.{room-enough, code-low}
 

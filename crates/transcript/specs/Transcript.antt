@@ -4,14 +4,14 @@ use mathlib.Core.Bool.{cond}
 use mathlib.Core.List.{List, [], _∷_, _++_}
 use lib.Dec.{eqb, ltb}
 use lib.ListN.{length, drop}
-use Rattle.device.specs.declared.Device.{Device}
 use Rattle.events.specs.declared.Event.{Event}
+use Rattle.device.specs.declared.Device.{Device}
 use Rattle.device.specs.declared.Stepped.{Stepped}
 use Rattle.device.specs.Events.{stepOf, irqOf, shownOutputs}
-use Rattle.text.specs.Lines.{lineMost, lineOf, refusedLine}
 use Rattle.record.specs.Records.{recordBytes}
-use Rattle.tape.specs.Tapes.{tapeMost, records, eventsOf}
 use Rattle.answer.specs.Answers.{answerBytes}
+use Rattle.text.specs.Lines.{lineMost, lineOf, refusedLine}
+use Rattle.tape.specs.Tapes.{tapeMost, records, eventsOf}
 use Rattle.tape.specs.Runs.{tapeResult}
 
 -- ---- sizes

@@ -17,10 +17,10 @@ use Rattle.device.specs.Events.{stepOf}
 use Rattle.record.specs.declared.Decoded.the-variants.{Valid}
 use Rattle.record.specs.Records.{recordBytes}
 use Rattle.record.proofs.Verdicts.{Holds}
+use Rattle.text.specs.Lines.{lineMost}
 use Rattle.tape.specs.declared.Found.the-variants.{Means}
 use Rattle.tape.specs.Tapes.{fitting, records, decoded, foundIn, recordAt, eventsOf}
 use Rattle.tape.proofs.Tapes.{check-fine}
-use Rattle.text.specs.Lines.{lineMost}
 use Rattle.demands.proofs.Records.{record-row, range-of}
 use Rattle.transcript.specs.Transcript.{recordsMost, enough, stepLine, linesOf}
 use Rattle.transcript.proofs.Codes.{few}

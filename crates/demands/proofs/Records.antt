@@ -1,4 +1,4 @@
--- A record by document 01's words: refused by one of 5 to 8, or an event that writes a byte at most. Assumes nothing.
+-- A record by document 01's words: refused by one of 5 to 8, or an event with its operands in range that writes a byte at most. Assumes nothing.
 use Prim.Native.Nat.{ℕ, zero, suc, _+_, _*_, _≤_, _<_}
 use mathlib.Core.Path.{_≡_, refl, _∙_}
 use mathlib.Core.Bool.{Bool, true, false, cond, _&&_}
@@ -13,7 +13,9 @@ use Rattle.events.specs.declared.Register.{Register}
 use Rattle.events.specs.declared.Event.{Event}
 use Rattle.events.specs.declared.Event.the-variants.{Reset, Read, Write, Level, Input, Clocks, Acknowledge, Raise}
 use Rattle.events.specs.declared.Refusal.the-variants.{RecordMark, Kind, Operand, Serial}
+use Rattle.events.specs.Ranges.{inRange}
 use Rattle.bits.specs.Bytes.{byte}
+use Rattle.bits.proofs.Bits.{joined}
 use Rattle.record.specs.declared.Selected.{Selected}
 use Rattle.record.specs.declared.Selected.the-variants.{Known, SerialPort}
 use Rattle.record.specs.declared.Decoded.{Decoded}
@@ -51,7 +53,7 @@ pub data Row (kind a n : ℕ) : Decoded → Type 0 where
   refuses-kind : 7 < kind → Row kind a n (Invalid Kind)
   refuses-operand : kind ≤ 7 → (OperandsInRange kind a n → ⊥) → Row kind a n (Invalid Operand)
   refuses-serial : OperandsInRange kind a n → SerialSelect kind a → Row kind a n (Invalid Serial)
-  gives-event : OperandsInRange kind a n → (SerialSelect kind a → ⊥) → (e : Event) → Bytes e → Row kind a n (Valid e)
+  gives-event : OperandsInRange kind a n → (SerialSelect kind a → ⊥) → (e : Event) → Bytes e → inRange e ≡ true → Row kind a n (Valid e)
 
 from-19 : {kind a : ℕ} → SerialSelect kind a → 19 ≤ a
 from-19 (serial-read h l) = h
@@ -68,23 +70,23 @@ at-most-7 (of-acknowledge h) = lit≤ tt
 at-most-7 (of-raise h l) = lit≤ tt
 
 read-row : {a : ℕ} {s : Selected} → a ≤ 23 → SelectRow a s → Row 1 a 0 (reading s)
-read-row h (a-register l r) = gives-event (of-read h) (λ s. let k = from-19 s in omega arith) (Read r) tt
+read-row h (a-register l r) = gives-event (of-read h) (λ s. let k = from-19 s in omega arith) (Read r) tt refl
 read-row h (the-serial-port l) = refuses-serial (of-read h) (serial-read l h)
 
 write-row : {a n : ℕ} {s : Selected} → a ≤ 23 → n ≤ 255 → SelectRow a s → Row 2 a n (writing s n)
-write-row {n = n} h l (a-register k r) = gives-event (of-write h l) (λ s. let m = from-19 s in omega arith) (Write r n) (omega arith)
+write-row {n = n} h l (a-register k r) = gives-event (of-write h l) (λ s. let m = from-19 s in omega arith) (Write r n) (omega arith) refl
 write-row h l (the-serial-port k) = refuses-serial (of-write h l) (serial-write k h)
 
 in-range-row : {kind a n : ℕ} → OperandsInRange kind a n → Row kind a n (eventOf kind a n)
 unfolding eventOf readSelect writeSelect
-in-range-row of-reset = gives-event of-reset (λ s. elim s [ ]) Reset tt
+in-range-row of-reset = gives-event of-reset (λ s. elim s [ ]) Reset tt refl
 in-range-row (of-read {a} h) = rw (le-leb _ _ h) (read-row h (select-row a))
 in-range-row (of-write {a} {n} h l) = rw (le-leb _ _ h, le-leb _ _ l) (write-row h l (select-row a))
-in-range-row (of-level {a} {n} h l) = rw (le-leb _ _ h, le-leb _ _ l) (gives-event (of-level h l) (λ s. elim s [ ]) (Level (line a) (eqb n 1)) tt)
-in-range-row (of-input {a} {n} h l) = rw (le-leb _ _ h, le-leb _ _ l) (gives-event (of-input h l) (λ s. elim s [ ]) (Input (inputOf a) (eqb n 1)) tt)
-in-range-row (of-clocks {n}) = gives-event of-clocks (λ s. elim s [ ]) (Clocks n) tt
-in-range-row (of-acknowledge {a} h) = rw (le-leb _ _ h) (gives-event (of-acknowledge h) (λ s. elim s [ ]) (Acknowledge (eqb a 1)) tt)
-in-range-row (of-raise {a} h l) = rw (le-leb _ _ h, le-leb _ _ l) (gives-event (of-raise h l) (λ s. elim s [ ]) (Raise (channel a)) tt)
+in-range-row (of-level {a} {n} h l) = rw (le-leb _ _ h, le-leb _ _ l) (gives-event (of-level h l) (λ s. elim s [ ]) (Level (line a) (eqb n 1)) tt (le-leb _ _ h))
+in-range-row (of-input {a} {n} h l) = rw (le-leb _ _ h, le-leb _ _ l) (gives-event (of-input h l) (λ s. elim s [ ]) (Input (inputOf a) (eqb n 1)) tt refl)
+in-range-row (of-clocks {n}) = gives-event of-clocks (λ s. elim s [ ]) (Clocks n) tt refl
+in-range-row (of-acknowledge {a} h) = rw (le-leb _ _ h) (gives-event (of-acknowledge h) (λ s. elim s [ ]) (Acknowledge (eqb a 1)) tt refl)
+in-range-row (of-raise {a} h l) = rw (le-leb _ _ h, le-leb _ _ l) (gives-event (of-raise h l) (λ s. elim s [ ]) (Raise (channel a)) tt (joined _ _ (le-leb _ _ h) (le-leb _ _ l)))
 
 -- ---- every kind and operands
 -- where the decoder's test passes the operands are in range; where it fails they are not
@@ -133,13 +135,16 @@ module _ {tape : List ℕ} {i : ℕ} where
   event-of (past-mark m (refuses-kind h)) g = absurd (let k = at-most-7 (g .operands) in omega arith)
   event-of (past-mark m (refuses-operand h f)) g = absurd (f (g .operands))
   event-of (past-mark m (refuses-serial r s)) g = absurd (g .no-serial s)
-  event-of (past-mark m (gives-event r n e b)) g = record { event = e; is = refl }
+  event-of (past-mark m (gives-event r n e b w)) g = record { event = e; is = refl }
 
   good-of : {e : Event} → RecordRow tape i (Valid e) → GoodRecord tape i
-  good-of (past-mark m (gives-event r n e b)) = record { marked = m; operands = r; no-serial = n }
+  good-of (past-mark m (gives-event r n e b w)) = record { marked = m; operands = r; no-serial = n }
 
   pub bytes-of : {e : Event} → RecordRow tape i (Valid e) → Bytes e
-  bytes-of (past-mark m (gives-event r n e b)) = b
+  bytes-of (past-mark m (gives-event r n e b w)) = b
+
+  pub range-of : {e : Event} → RecordRow tape i (Valid e) → inRange e ≡ true
+  range-of (past-mark m (gives-event r n e b w)) = w
 
 pub good-record-has-event : GoodRecordHasEvent
 good-record-has-event tape i = (λ g. let h = event-of (record-row tape i) g in record { event = h .event; means = h .is }, λ h. good-of (rw (h .means) at (record-row tape i)))
@@ -175,7 +180,7 @@ module _ (tape : List ℕ) (i : ℕ) where
         go (refuses-kind l) = refl
         go (refuses-operand l f) = absurd (omega arith)
         go (refuses-serial r s) = absurd (let k = at-most-7 r in omega arith)
-        go (gives-event r n e b) = absurd (let k = at-most-7 r in omega arith)
+        go (gives-event r n e b w) = absurd (let k = at-most-7 r in omega arith)
 
     pub operand-refused : kindOf tape i ≤ 7 → (RecordInRange tape i → ⊥) → decoded tape (i * recordBytes) ≡ Invalid Operand
     operand-refused h f = go marked-row
@@ -184,7 +189,7 @@ module _ (tape : List ℕ) (i : ℕ) where
         go (refuses-kind l) = absurd (omega arith)
         go (refuses-operand l g) = refl
         go (refuses-serial r s) = absurd (f r)
-        go (gives-event r n e b) = absurd (f r)
+        go (gives-event r n e b w) = absurd (f r)
 
     pub serial-refused : RecordInRange tape i → RecordSerial tape i → decoded tape (i * recordBytes) ≡ Invalid Serial
     serial-refused r s = go marked-row
@@ -193,4 +198,4 @@ module _ (tape : List ℕ) (i : ℕ) where
         go (refuses-kind l) = absurd (let k = at-most-7 r in omega arith)
         go (refuses-operand l f) = absurd (f r)
         go (refuses-serial r s) = refl
-        go (gives-event r n e b) = absurd (n s)
+        go (gives-event r n e b w) = absurd (n s)

@@ -2,11 +2,13 @@
 // One byte more than the longest tape is enough to see that an input is too long.
 use libc::STDIN_FILENO;
 use libc::STDOUT_FILENO;
+use tape::TAPE_MOST;
+use transcript::ENOUGH;
 
 fn main() {
-    let mut tape = [0u8; 4097];
+    let mut tape = [0u8; TAPE_MOST + 1];
     let n = io::read_full(STDIN_FILENO, &mut tape);
-    let mut out = [0u8; 32768];
+    let mut out = [0u8; ENOUGH];
     let r = transcript::transcript(&tape[..n], &mut out);
     io::write_all(STDOUT_FILENO, &out[..r]);
 }

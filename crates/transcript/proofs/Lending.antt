@@ -3,15 +3,16 @@ use Prim.Native.Nat.{ℕ}
 use mathlib.Core.Path.{_≡_, ap, _∙_}
 use mathlib.Core.Bool.{true}
 use native.Mathlib.Omega.{arith}
+use Rattle.timers.specs.declared.Timeouts.{Timeouts}
+use Rattle.events.specs.declared.Event.{Event}
+use Rattle.events.specs.declared.Answer.{Answer}
+use Rattle.events.specs.declared.Refusal.{Refusal}
+use Rattle.events.specs.Ranges.{inRange}
 use Rattle.device.specs.declared.Device.{Device}
-use Rattle.device.specs.declared.Event.{Event}
-use Rattle.device.specs.declared.Answer.{Answer}
-use Rattle.device.specs.declared.Timeouts.{Timeouts}
-use Rattle.device.specs.declared.Refusal.{Refusal}
 use Rattle.device.specs.declared.Stepped.{Stepped}
 use Rattle.device.specs.declared.Outcome.the-variants.{Answered, Refused}
 use Rattle.device.specs.declared.Handled.{Handled}
-use Rattle.device.specs.Events.{stepOf, imageRule, inRange, handledOf}
+use Rattle.device.specs.Events.{stepOf, imageRule, handledOf}
 
 module _ (d : Device) (e : Event) (rule : imageRule d ≡ true) (range : inRange e ≡ true) (h : Handled) (is : h ≡ handledOf d e) where
   handled : handledOf d e ≡ record { device = stepOf d e .device; outcome = Answered (stepOf d e .answer) (stepOf d e .timeouts) }

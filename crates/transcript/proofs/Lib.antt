@@ -1,8 +1,7 @@
--- The laws of a line in its place, of a tape's events and its verdict, and of the loop over its records.
+-- The laws of a line in its place, of an event through the record lent, of a tape's code, of the loop over its records, and of the whole text.
 pub mod Places
 pub mod Lending
-pub mod Decoding
-pub mod Verdicts
+pub mod Codes
 pub mod Printing
 pub mod Texts
 pub mod Sentences

@@ -6,29 +6,30 @@ use mathlib.Core.List.{List, [], _++_, append-assoc, append-nil}
 use native.Mathlib.Omega.{arith}
 use lib.ListN.{length, take, drop, length-append, length-drop, take-append-drop}
 use lib.Seq.{length-take-le, take-at, drop-at, drop-drop}
+use Rattle.events.specs.declared.Event.{Event}
 use Rattle.device.specs.declared.Device.{Device}
-use Rattle.device.specs.declared.Event.{Event}
-use Rattle.device.specs.Events.{freshDevice, stepOf, imageRule}
-use Rattle.demands.proofs.Rule.{every-event-keeps-the-rule}
-use Rattle.demands.proofs.Accepted.{fresh-keeps-the-rule}
-use Rattle.tape.specs.declared.Decoded.the-variants.{Valid}
+use Rattle.device.specs.Events.{stepOf, imageRule}
+use Rattle.record.specs.declared.Decoded.the-variants.{Valid}
+use Rattle.record.specs.Records.{recordBytes}
+use Rattle.text.specs.Lines.{lineMost}
 use Rattle.tape.specs.declared.Checked.the-variants.{Fine}
-use Rattle.tape.specs.Records.{recordBytes, decoded, firstBad, events}
+use Rattle.tape.specs.Tapes.{decoded, firstBad, events}
 use Rattle.tape.proofs.Tapes.{check-valid, event-valid, events-none}
-use Rattle.transcript.specs.Transcript.{stepLine, linesOf}
-use Rattle.transcript.proofs.Decoding.{sound}
+use Rattle.demands.proofs.Rule.{every-event-keeps-the-rule}
+use Rattle.demands.proofs.Records.{record-row, bytes-of}
+use Rattle.transcript.specs.Transcript.{recordsMost, enough, stepLine, linesOf}
 
-module _ (tape out₀ : List ℕ) (n : ℕ) where
+module _ (start : Device) (tape out₀ : List ℕ) (n : ℕ) where
   -- the text of all n records
   abbrev whole : List ℕ
-  whole = linesOf 0 freshDevice (events tape 0 n)
+  whole = linesOf 0 start (events tape 0 n)
 
   -- after i of n records, at a device, with the lines so far in the first `at` bytes
   pub record Going (out : List ℕ) (d : Device) (at i : ℕ) : Type 0 where
     pub within : i ≤ n
     pub rule : imageRule d ≡ true
     pub long : length out ≡ length out₀
-    pub room : at ≤ 64 * i
+    pub room : at ≤ lineMost * i
     pub clear : firstBad tape i (n - i) ≡ Fine
     pub front : take at out ++ linesOf i d (events tape i (n - i)) ≡ whole
     pub rest : drop at out ≡ drop at out₀
@@ -36,23 +37,23 @@ module _ (tape out₀ : List ℕ) (n : ℕ) where
   from-zero : n - 0 ≡ n
   from-zero = omega arith
 
-  pub going-begins : (d : Device) → d ≡ freshDevice → firstBad tape 0 n ≡ Fine → Going out₀ d 0 0
-  going-begins d f e = record {
+  pub going-begins : imageRule start ≡ true → firstBad tape 0 n ≡ Fine → Going out₀ start 0 0
+  going-begins f e = record {
     within = omega arith;
-    rule = rw f fresh-keeps-the-rule;
+    rule = f;
     long = refl;
     room = omega arith;
     clear = ap (firstBad tape 0) from-zero ∙ e;
-    front = ap₂ (λ (x : Device) (k : ℕ). linesOf 0 x (events tape 0 k)) f from-zero;
+    front = ap (λ (k : ℕ). linesOf 0 start (events tape 0 k)) from-zero;
     rest = refl;
   }
 
   -- a line more fits
-  pub going-fits : (out : List ℕ) (d : Device) (at i : ℕ) → Going out d at i → i < n → n ≤ 512 → 32768 ≤ length out₀ → at + 64 ≤ length out
+  pub going-fits : (out : List ℕ) (d : Device) (at i : ℕ) → Going out d at i → i < n → n ≤ recordsMost → enough ≤ length out₀ → at + lineMost ≤ length out
   going-fits out d at i g h few fits = let l = g .long in let r = g .room in omega arith
 
   -- the last record done
-  module _ (out : List ℕ) (d : Device) (at i : ℕ) (g : Going out d at i) (h : n ≤ i) (few : n ≤ 512) (fits : 32768 ≤ length out₀) where
+  module _ (out : List ℕ) (d : Device) (at i : ℕ) (g : Going out d at i) (h : n ≤ i) (few : n ≤ recordsMost) (fits : enough ≤ length out₀) where
     pub text-fits : at ≤ length out
     text-fits = let l = g .long in let r = g .room in let w = g .within in omega arith
 
@@ -70,7 +71,7 @@ module _ (tape out₀ : List ℕ) (n : ℕ) where
     text-put = sym (take-append-drop at out) ∙ ap₂ (λ (x y : List ℕ). x ++ y) text-is (g .rest)
 
   -- one record more
-  module _ (out : List ℕ) (d : Device) (at i : ℕ) (g : Going out d at i) (h : i < n) (few : n ≤ 512) (fits : 32768 ≤ length out₀) (e : Event) (p : decoded tape (i * recordBytes) ≡ Valid e) where
+  module _ (out : List ℕ) (d : Device) (at i : ℕ) (g : Going out d at i) (h : i < n) (few : n ≤ recordsMost) (fits : enough ≤ length out₀) (e : Event) (p : decoded tape (i * recordBytes) ≡ Valid e) where
     abbrev line : List ℕ
     line = stepLine i (stepOf d e)
 
@@ -81,7 +82,7 @@ module _ (tape out₀ : List ℕ) (n : ℕ) where
     unfolding linesOf
     lines-here = ap (linesOf i d) (event-valid tape i n h e p)
 
-    module _ (r : ℕ) (after : List ℕ) (to : r ≡ at + length line) (most : r ≤ at + 64) (put : after ≡ (take at out ++ line) ++ drop r out) where
+    module _ (r : ℕ) (after : List ℕ) (to : r ≡ at + length line) (most : r ≤ at + lineMost) (put : after ≡ (take at out ++ line) ++ drop r out) where
       short : at ≤ length out
       short = omega (arith, going-fits out d at i g h few fits)
 
@@ -91,7 +92,7 @@ module _ (tape out₀ : List ℕ) (n : ℕ) where
       pub going-on : Going after (stepOf d e .device) r (i + 1)
       going-on = record {
         within = omega arith;
-        rule = every-event-keeps-the-rule d e (sound tape (i * recordBytes) e p .bytes) (g .rule);
+        rule = every-event-keeps-the-rule d e (bytes-of (rw p at (record-row tape i))) (g .rule);
         long =
             ap length put
             ∙ length-append (take at out ++ line) (drop r out)

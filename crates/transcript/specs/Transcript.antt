@@ -4,19 +4,33 @@ use mathlib.Core.Bool.{cond}
 use mathlib.Core.List.{List, [], _∷_, _++_}
 use lib.Dec.{eqb, ltb}
 use lib.ListN.{length, drop}
+use Rattle.events.specs.declared.Event.{Event}
 use Rattle.device.specs.declared.Device.{Device}
-use Rattle.device.specs.declared.Event.{Event}
 use Rattle.device.specs.declared.Stepped.{Stepped}
-use Rattle.device.specs.Events.{freshDevice, stepOf, irqOf, outputsOf}
-use Rattle.text.specs.Lines.{lineOf, refusedLine}
-use Rattle.tape.specs.Records.{records, eventsOf}
-use Rattle.tape.specs.Answers.{answerBytes}
+use Rattle.device.specs.Events.{stepOf, irqOf, shownOutputs}
+use Rattle.record.specs.Records.{recordBytes}
+use Rattle.answer.specs.Answers.{answerBytes}
+use Rattle.text.specs.Lines.{lineMost, lineOf, refusedLine}
+use Rattle.tape.specs.Tapes.{tapeMost, records, eventsOf}
 use Rattle.tape.specs.Runs.{tapeResult}
+
+-- ---- sizes
+-- the records of the longest tape: 512
+abbrev pub recordsMost : ℕ
+recordsMost = tapeMost / recordBytes
+
+-- room for their answers
+abbrev pub answersMost : ℕ
+answersMost = answerBytes * recordsMost
+
+-- and for their lines: a buffer of so many bytes, 32,768, holds every transcript
+abbrev pub enough : ℕ
+enough = recordsMost * lineMost
 
 -- ---- the lines of an accepted tape
 -- "one line a record": its answer and its timeout counts, and IRQ and outputs after it
 unfoldable pub stepLine : ℕ → Stepped → List ℕ
-stepLine i s = lineOf i (s .answer) (irqOf (s .device)) (outputsOf (s .device)) (s .timeouts)
+stepLine i s = lineOf i (s .answer) (irqOf (s .device)) (shownOutputs (s .device)) (s .timeouts)
 
 -- the lines of events one after the other from a device, the first of index i
 unfoldable pub linesOf : ℕ → Device → List Event → List ℕ
@@ -25,21 +39,17 @@ linesOf i d (e ∷ es) = stepLine i (stepOf d e) ++ linesOf (i + 1) (stepOf d e 
 
 -- ---- the whole text
 -- 0, or 256 × index + number of a refused tape. The answers have all the room they need, so refusal 9 is never given; "input longer than 4,096 bytes is refusal 4".
-unfoldable pub verdict : List ℕ → ℕ
-verdict tape = tapeResult tape (answerBytes * records tape)
+unfoldable pub codeOf : List ℕ → ℕ
+codeOf tape = tapeResult tape (answerBytes * records tape)
 
--- "It reads a tape from standard input, starts fresh, and prints one line a record, no header"; "A refused tape prints only `refused N INDEX`"; "An empty input prints nothing."
-unfoldable pub transcriptOf : List ℕ → List ℕ
-transcriptOf tape =
-    cond (eqb (verdict tape) 0)
-    (linesOf 0 freshDevice (eventsOf tape))
-    (refusedLine (verdict tape % 256) (verdict tape / 256))
+-- "It reads a tape from standard input, starts fresh, and prints one line a record, no header"; "A refused tape prints only `refused N INDEX`"; "An empty input prints nothing." The device that it starts from is the first argument: the replay program's is a fresh one.
+unfoldable pub transcriptOf : Device → List ℕ → List ℕ
+transcriptOf start tape =
+    cond (eqb (codeOf tape) 0)
+    (linesOf 0 start (eventsOf tape))
+    (refusedLine (codeOf tape % 256) (codeOf tape / 256))
 
 -- ---- the text in a buffer
--- room for every transcript: 512 lines of at most 64 bytes
-abbrev pub enough : ℕ
-enough = 32768
-
 -- a text at the start of a buffer, the rest as it was; a buffer that is too short for some transcript stays as it was
 unfoldable pub printed : List ℕ → List ℕ → List ℕ
 printed text out = cond (ltb (length out) enough) out (text ++ drop (length text) out)

@@ -7,7 +7,7 @@ use Rattle.transcript.proofs.print.Tie as tie
 returns : tie.Need-returns
 returns c =
     let a = c .before .before .before .args in
-    too-short (a .tape .now) (a .out .now) (c .if1 .taken)
+    too-short (a .start) (a .tape .now) (a .out .now) (c .if1 .taken)
 
 check-requires : tie.Need-check-requires
 check-requires c κs = search needs
@@ -30,14 +30,14 @@ returns-2 c =
     let test = line .before .before in
     let check = test .before in
     let a = check .before .before .before .before .args in
-    refused (a .tape .now) (a .out .now) (check .before .if1 .left) _ (check .check .ensures) (test .if2 .taken)
+    refused (a .start) (a .tape .now) (a .out .now) (check .before .if1 .left) _ (check .check .ensures) (test .if2 .taken)
     _ _ (line .refused .ensures .0) (line .refused .ensures .1 .0) (line .refused .ensures .1 .1)
 
 put-lines-requires : tie.Need-put-lines-requires
 put-lines-requires c κs =
     let check = c .before .before in
     let a = check .before .before .before .before .args in
-    accepted (a .tape .now) (a .out .now) (check .before .if1 .left) _ (check .check .ensures) (c .before .if2 .left)
+    (check .before .before .before .before .pre, accepted (a .start) (a .tape .now) (a .out .now) (check .before .if1 .left) _ (check .check .ensures) (c .before .if2 .left))
 
 same-length-2 : tie.Need-same-length-2
 same-length-2 c = search needs
@@ -48,7 +48,7 @@ returns-3 c =
     let test = put .before .before in
     let check = test .before in
     let a = check .before .before .before .before .args in
-    lines (a .tape .now) (a .out .now) (check .before .if1 .left) _ (check .check .ensures) (test .if2 .left)
+    lines (a .start) (a .tape .now) (a .out .now) (check .before .if1 .left) _ (check .check .ensures) (test .if2 .left)
     _ _ (put .put-lines .ensures .0) (put .put-lines .ensures .1 .0) (put .put-lines .ensures .1 .1)
 
 pub print-spec : {M : Type 1} → statement M

@@ -1,4 +1,4 @@
--- `transcript::put_line` meets its contract: the line lies in a part of 64 bytes. Assumes nothing.
+-- `transcript::put_line` meets its contract: the line lies in a part of `lineMost` bytes. Assumes nothing.
 use Prim.Native.Nat.{ℕ, _+_, _-_, _≤_}
 use mathlib.Core.Path.{_≡_, sym, ap₂, _∙_}
 use mathlib.Core.Bool.{Bool}
@@ -8,19 +8,19 @@ use borrow.Author.Needs.{needs}
 use borrow.Rule.Slice.PartMut.{midOf, putMid}
 use lib.ListN.{length, take, drop}
 use Rattle.device.specs.declared.Stepped.{Stepped}
-use Rattle.device.specs.Events.{irqOf, outputsOf}
-use Rattle.text.specs.Lines.{lineOf, written, writtenLength}
+use Rattle.device.specs.Events.{irqOf, shownOutputs}
+use Rattle.text.specs.Lines.{lineMost, lineOf, written, writtenLength}
 use Rattle.transcript.specs.Transcript.{stepLine}
 use Rattle.transcript.proofs.Places.{line-long, line-fits, laid}
 use Rattle.transcript.proofs.put_line.Statement.{statement}
 use Rattle.transcript.proofs.put_line.Tie as tie
 
-module _ (at i : ℕ) (s : Stepped) (out : List ℕ) (h : at + 64 ≤ length out) where
+module _ (at i : ℕ) (s : Stepped) (out : List ℕ) (h : at + lineMost ≤ length out) where
   abbrev part : List ℕ
-  part = midOf at (at + 64 - at) out
+  part = midOf at (at + lineMost - at) out
 
-  ended : (line : List ℕ) → line ≡ stepLine i s → (r : ℕ) (after : List ℕ) → r ≡ writtenLength line part → after ≡ written line part → length (putMid at (at + 64 - at) out after) ≡ length out
-      → (at + r ≡ at + length (stepLine i s)) × ((at + r ≤ at + 64) × (putMid at (at + 64 - at) out after ≡ (take at out ++ stepLine i s) ++ drop (at + r) out))
+  ended : (line : List ℕ) → line ≡ stepLine i s → (r : ℕ) (after : List ℕ) → r ≡ writtenLength line part → after ≡ written line part → length (putMid at (at + lineMost - at) out after) ≡ length out
+      → (at + r ≡ at + length (stepLine i s)) × ((at + r ≤ at + lineMost) × (putMid at (at + lineMost - at) out after ≡ (take at out ++ stepLine i s) ++ drop (at + r) out))
   ended line e r after p w l =
       let k : r ≡ length line = line-long at line out h r p in (
         rw (k, e),
@@ -31,7 +31,7 @@ module _ (at i : ℕ) (s : Stepped) (out : List ℕ) (h : at + 64 ≤ length out
       )
 
 -- the words of the line are the step's
-line-is : (i : ℕ) (s : Stepped) (irq : Bool) (outputs : ℕ) → irq ≡ irqOf (s .device) → outputs ≡ outputsOf (s .device) → lineOf i (s .answer) irq outputs (s .timeouts) ≡ stepLine i s
+line-is : (i : ℕ) (s : Stepped) (irq : Bool) (outputs : ℕ) → irq ≡ irqOf (s .device) → outputs ≡ shownOutputs (s .device) → lineOf i (s .answer) irq outputs (s .timeouts) ≡ stepLine i s
 unfolding stepLine
 line-is i s irq outputs p q = rw (p, q)
 

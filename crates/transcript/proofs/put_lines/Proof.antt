@@ -1,72 +1,74 @@
 -- `transcript::put_lines` meets its contract. The loop's invariant is `Going`: the lines put and those of the records left make the whole text.
 -- The measure is how many records are left. Assumes nothing.
 use Prim.Native.Nat.{ℕ, _+_, _-_, _*_, _≤_, _<_}
-use mathlib.Core.Path.{_≡_, sym, _∙_}
+use mathlib.Core.Path.{_≡_, sym, ap, _∙_}
 use mathlib.Core.Bool.{true}
 use mathlib.Core.List.{List, _++_}
+use mathlib.Core.Logic.{⊎-elim}
 use native.Mathlib.Omega.{arith}
 use borrow.Author.Needs.{needs}
+use borrow.Author.Tests.{lt-leb}
 use lib.ListN.{length, take, drop}
+use Rattle.events.specs.declared.Event.{Event}
+use Rattle.events.specs.Ranges.{inRange}
 use Rattle.device.specs.declared.Device.{Device}
-use Rattle.device.specs.declared.Event.{Event}
-use Rattle.device.specs.declared.Refusal.{Refusal}
 use Rattle.device.specs.declared.Stepped.{Stepped}
-use Rattle.device.specs.Events.{freshDevice, stepOf, inRange}
-use Rattle.tape.specs.declared.Decoded.the-variants.{Valid, Invalid}
-use Rattle.tape.specs.declared.Checked.the-variants.{Fine, Bad}
-use Rattle.tape.specs.Records.{recordBytes, records, recordAt, decoded, eventsOf}
-use Rattle.tape.proofs.Tapes.{check-bad}
-use Rattle.transcript.specs.Transcript.{stepLine, linesOf}
-use Rattle.transcript.proofs.Decoding.{sound, record-in}
+use Rattle.device.specs.Events.{stepOf}
+use Rattle.record.specs.declared.Decoded.the-variants.{Valid}
+use Rattle.record.specs.Records.{recordBytes}
+use Rattle.record.proofs.Verdicts.{Holds}
+use Rattle.text.specs.Lines.{lineMost}
+use Rattle.tape.specs.declared.Found.the-variants.{Means}
+use Rattle.tape.specs.Tapes.{fitting, records, decoded, foundIn, recordAt, eventsOf}
+use Rattle.tape.proofs.Tapes.{check-fine}
+use Rattle.demands.proofs.Records.{record-row, range-of}
+use Rattle.transcript.specs.Transcript.{recordsMost, enough, stepLine, linesOf}
+use Rattle.transcript.proofs.Codes.{few}
 use Rattle.transcript.proofs.Printing.{Going, going-begins, going-fits, going-on, text-fits, text-long, text-put}
 use Rattle.transcript.proofs.put_lines.Statement.{statement}
 use Rattle.transcript.proofs.put_lines.Tie as tie
 
 abbrev Inv-loop : tie.InvT-loop
-Inv-loop tape out₀ lending n d₀ at₀ i₀ out d at i = Going tape out₀ n out d at i
+Inv-loop tape out₀ lending n start at₀ i₀ out d at i = Going start tape out₀ n out d at i
 
 abbrev μ-loop : tie.MeasureT-loop
-μ-loop tape out₀ lending n d₀ at₀ i₀ out d at i = n - i
+μ-loop tape out₀ lending n start at₀ i₀ out d at i = n - i
 
-module _ (tape out₀ : List ℕ) (short : length tape ≤ 4096) (fits : 32768 ≤ length out₀) (out : List ℕ) (d : Device) (at i : ℕ) (g : Going tape out₀ (records tape) out d at i) where
-  few : records tape ≤ 512
-  few = omega arith
-
+module _ {start d : Device} {tape out₀ out : List ℕ} {at i : ℕ} (fit : fitting tape ≡ true) (room : enough ≤ length out₀) (g : Going start tape out₀ (records tape) out d at i) where
   -- past the last record
   ended : records tape ≤ i
-      → (at ≡ length (linesOf 0 freshDevice (eventsOf tape))) × ((at ≤ length out) × (out ≡ linesOf 0 freshDevice (eventsOf tape) ++ drop at out₀))
-  ended h = let n = records tape in (text-long tape out₀ n out d at i g h few fits, (text-fits tape out₀ n out d at i g h few fits, text-put tape out₀ n out d at i g h few fits))
+      → (at ≡ length (linesOf 0 start (eventsOf tape))) × ((at ≤ length out) × (out ≡ linesOf 0 start (eventsOf tape) ++ drop at out₀))
+  ended h = let n = records tape in (text-long start tape out₀ n out d at i g h (few tape fit) room, (text-fits start tape out₀ n out d at i g h (few tape fit) room, text-put start tape out₀ n out d at i g h (few tape fit) room))
 
   module _ (h : i < records tape) where
-    place : (at + 64 ≤ length out) × (i < 512)
-    place = let f = few in (going-fits tape out₀ (records tape) out d at i g h f fits, omega arith)
+    place : (at + lineMost ≤ length out) × (i < recordsMost)
+    place = let f = few tape fit in (going-fits start tape out₀ (records tape) out d at i g h f room, omega arith)
 
-    -- no record of a checked tape is refused
-    never : {X : Type 0} (r : Refusal) → recordAt tape i ≡ Invalid r → X
-    never r e =
-        let p : Bad r i ≡ Fine = sym (check-bad tape i (records tape) h r (sym (record-in tape i h) ∙ e)) ∙ g .clear in
-        let z : _≡_ {A = ℕ} 0 1 = cc in absurd (omega arith)
+    -- every record of a checked tape has an event
+    held : Holds (decoded tape (i * recordBytes))
+    held = check-fine tape i (records tape) h (g .clear)
 
-    module _ (e : Event) (p : recordAt tape i ≡ Valid e) where
+    found : recordAt tape i ≡ Means (held .event)
+    unfolding recordAt
+    found = rw (fit, lt-leb _ _ h) (ap foundIn (held .is))
+
+    module _ (e : Event) (p : recordAt tape i ≡ Means e) where
       here : decoded tape (i * recordBytes) ≡ Valid e
-      here = sym (record-in tape i h) ∙ p
+      here = let q = found in let s : held .event ≡ e = cc in held .is ∙ ap Valid s
 
       in-range : inRange e ≡ true
-      in-range = sound tape (i * recordBytes) e here .range
+      in-range = range-of (rw here at (record-row tape i))
 
-      turned : (s : Stepped) → s ≡ stepOf d e → (r : ℕ) (after : List ℕ) → r ≡ at + length (stepLine i s) → r ≤ at + 64 → after ≡ (take at out ++ stepLine i s) ++ drop r out
-          → Going tape out₀ (records tape) after (s .device) r (i + 1)
+      turned : (s : Stepped) → s ≡ stepOf d e → (r : ℕ) (after : List ℕ) → r ≡ at + length (stepLine i s) → r ≤ at + lineMost → after ≡ (take at out ++ stepLine i s) ++ drop r out
+          → Going start tape out₀ (records tape) after (s .device) r (i + 1)
       turned s q r after to most put =
-          let f = few in
-          rw q (going-on tape out₀ (records tape) out d at i g h f fits e here r after (rw q at to) most (rw q at put))
-
-fresh-requires : tie.Need-fresh-requires Inv-loop μ-loop
-fresh-requires c κs = search needs
+          let f = few tape fit in
+          rw q (going-on start tape out₀ (records tape) out d at i g h f room e here r after (rw q at to) most (rw q at put))
 
 loop-holds : tie.Need-loop-holds Inv-loop μ-loop
 loop-holds c =
-    let start = c .before .before .before in
-    going-begins (start .args .tape .now) (start .args .out .now) (records (start .args .tape .now)) _ (c .fresh .ensures) (start .pre .1 .0)
+    let entry = c .before .before in
+    going-begins (entry .args .start) (entry .args .tape .now) (entry .args .out .now) (records (entry .args .tape .now)) (entry .pre .0) (entry .pre .1 .1 .0)
 
 record-at-requires : tie.Need-record-at-requires Inv-loop μ-loop
 record-at-requires c κs = search needs
@@ -74,26 +76,24 @@ record-at-requires c κs = search needs
 enum-known-x : tie.Need-enum-known-x Inv-loop μ-loop
 enum-known-x c = search needs
 
-enum-told : tie.Need-enum-told Inv-loop μ-loop
-enum-told c = search needs
-
 same-length : tie.Need-same-length Inv-loop μ-loop
-same-length c = c .before .before .before .before .loop .inv .long
+same-length c = c .before .before .before .loop .inv .long
 
 returns : tie.Need-returns Inv-loop μ-loop
 returns c =
-    let top = c .before .before .before .before in
-    let start = top .before .before .before .before in
-    never (start .args .tape .now) (start .args .out .now) (start .pre .0) (start .pre .1 .1) (top .loop .out) (top .loop .d) (top .loop .at) (top .loop .i) (top .loop .inv) (c .before .before .before .loop-test .taken)
-    _ (sym (c .before .before .record-at .ensures) ∙ c .enum-told .given .1)
+    let read = c .before in
+    let top = read .before .before in
+    let entry = top .before .before .before in
+    let f = read .record-at .ensures ∙ found (entry .pre .1 .0) (entry .pre .1 .1 .1) (top .loop .inv) (read .before .loop-test .taken) in
+    ⊎-elim (λ w. absurd (omega arith)) (λ w. absurd (omega arith)) (rw f at (c .match .keys2))
 
 step-requires : tie.Need-step-requires Inv-loop μ-loop
 step-requires c κs =
     let read = c .before .before .before in
     let top = read .before .before in
-    let start = top .before .before .before .before in (
+    let entry = top .before .before .before in (
       top .loop .inv .rule,
-      in-range (start .args .tape .now) (start .args .out .now) (start .pre .0) (start .pre .1 .1) (top .loop .out) (top .loop .d) (top .loop .at) (top .loop .i) (top .loop .inv) (read .before .loop-test .taken)
+      in-range (entry .pre .1 .0) (entry .pre .1 .1 .1) (top .loop .inv) (read .before .loop-test .taken)
           _ (sym (read .record-at .ensures) ∙ c .before .x .given .1),
     )
 
@@ -101,11 +101,14 @@ put-line-requires : tie.Need-put-line-requires Inv-loop μ-loop
 put-line-requires c κs =
     let test = c .before .before .before .before .before .before in
     let top = test .before in
-    let start = top .before .before .before .before in
-    place (start .args .tape .now) (start .args .out .now) (start .pre .0) (start .pre .1 .1) (top .loop .out) (top .loop .d) (top .loop .at) (top .loop .i) (top .loop .inv) (test .loop-test .taken)
+    let entry = top .before .before .before in
+    place (entry .pre .1 .0) (entry .pre .1 .1 .1) (top .loop .inv) (test .loop-test .taken)
 
 add-i : tie.Need-add-i Inv-loop μ-loop
-add-i c = omega arith
+add-i c =
+    let top = c .before .before .before .before .before .before .before .before .before .before .before in
+    let entry = top .before .before .before in
+    let f = few (entry .args .tape .now) (entry .pre .1 .0) in omega arith
 
 loop-less : tie.Need-loop-less Inv-loop μ-loop
 loop-less c = omega arith
@@ -116,8 +119,8 @@ loop-again c =
     let step = line .before .before in
     let read = step .before .before .before .before in
     let top = read .before .before in
-    let start = top .before .before .before .before in
-    turned (start .args .tape .now) (start .args .out .now) (start .pre .0) (start .pre .1 .1) (top .loop .out) (top .loop .d) (top .loop .at) (top .loop .i) (top .loop .inv) (read .before .loop-test .taken)
+    let entry = top .before .before .before in
+    turned (entry .pre .1 .0) (entry .pre .1 .1 .1) (top .loop .inv) (read .before .loop-test .taken)
     _ (sym (read .record-at .ensures) ∙ step .before .before .x .given .1) _ (step .step .ensures) _ _ (line .put-line .ensures .0) (line .put-line .ensures .1 .0) (line .put-line .ensures .1 .1)
 
 same-length-2 : tie.Need-same-length-2 Inv-loop μ-loop
@@ -126,8 +129,8 @@ same-length-2 c = c .before .loop .inv .long
 returns-2 : tie.Need-returns-2 Inv-loop μ-loop
 returns-2 c =
     let top = c .before in
-    let start = top .before .before .before .before in
-    ended (start .args .tape .now) (start .args .out .now) (start .pre .0) (start .pre .1 .1) (top .loop .out) (top .loop .d) (top .loop .at) (top .loop .i) (top .loop .inv) (c .loop-test .left)
+    let entry = top .before .before .before in
+    ended (entry .pre .1 .0) (entry .pre .1 .1 .1) (top .loop .inv) (c .loop-test .left)
 
 pub put-lines-spec : {M : Type 1} → statement M
 put-lines-spec =
@@ -135,11 +138,9 @@ put-lines-spec =
     (tie.spec
     Inv-loop
     μ-loop
-    fresh-requires
     loop-holds
     record-at-requires
     enum-known-x
-    enum-told
     same-length
     returns
     step-requires

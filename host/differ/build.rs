@@ -31,18 +31,28 @@ fn link_plain(host: &Path) {
     for file in ["bench/plain.c", "bench/plain.h", "include/mfp.h"] {
         println!("cargo:rerun-if-changed={}", host.join(file).display());
     }
-    let mut compile = Command::new("gcc");
+    let mut compile = Command::new(tool("gcc"));
     compile.args(["-std=c99", "-O3", "-Wall", "-Wextra", "-Werror", "-c"]);
     compile.arg("-I").arg(host.join("include"));
     must(compile.arg(source).arg("-o").arg(&object));
     must(
-        Command::new("ar")
+        Command::new(tool("ar"))
             .arg("rcs")
             .arg(out.join("libplain.a"))
             .arg(&object),
     );
     println!("cargo:rustc-link-search=native={}", out.display());
     println!("cargo:rustc-link-lib=static=plain");
+}
+
+/// What makes C for the target: the cross tool where that is another machine.
+fn tool(name: &str) -> String {
+    let machine = |of: &str| std::env::var(of).expect("cargo names it");
+    if machine("TARGET") == machine("HOST") {
+        name.to_string()
+    } else {
+        format!("x86_64-linux-gnu-{name}")
+    }
 }
 
 fn must(command: &mut Command) {

@@ -3,6 +3,7 @@
 //! `differ` runs the named cases and four million random events by fixed seeds;
 //! `differ --seed S --events N` runs random events alone, by any seed;
 //! `differ --replay PROGRAM` compares the replay program's lines.
+//! MFP_EMULATOR names what other processes run under, where the machine needs it.
 //! The last line is `N passed, M failed`; any failure is a non-zero status.
 #![deny(warnings)]
 
@@ -20,7 +21,7 @@ mod shrink;
 use guard::Side;
 use lent::Lender;
 use random::Reached;
-use std::process::{Command, ExitCode};
+use std::process::ExitCode;
 
 /// The seeds of a run without arguments, and the events of each.
 const SEEDS: std::ops::RangeInclusive<u64> = 1..=10;
@@ -132,8 +133,8 @@ fn all_reached(reached: &Reached) -> Result<u64, String> {
 
 /// A second process touches a byte outside and must end by it.
 fn is_noticed(side: &str) -> Result<u64, String> {
-    let program = std::env::current_exe().map_err(|error| error.to_string())?;
-    let output = Command::new(program).args(["--touch", side]).output();
+    let own = std::env::current_exe().map_err(|error| error.to_string())?;
+    let output = program::process(own).args(["--touch", side]).output();
     let status = output.map_err(|error| error.to_string())?.status;
     if status.code() == Some(guard::FAULT_STATUS) {
         Ok(1)

@@ -5,6 +5,7 @@ use mfp_host::reference::layout::{RECORD_BYTES, TAPE_MAX};
 use mfp_host::reference::tape::encode_record;
 use mfp_host::rng::Rng;
 use mfp_host::{replay, text};
+use std::ffi::OsStr;
 use std::io::Write;
 use std::process::{Command, Stdio};
 
@@ -71,8 +72,21 @@ fn same_lines(program: &str, input: &[u8]) -> Result<(), String> {
     ))
 }
 
+/// A process of a program for x86-64: where the machine is another, under the
+/// emulator that MFP_EMULATOR names.
+pub fn process(program: impl AsRef<OsStr>) -> Command {
+    match std::env::var_os("MFP_EMULATOR") {
+        Some(emulator) if !emulator.is_empty() => {
+            let mut command = Command::new(emulator);
+            command.arg(program);
+            command
+        }
+        _ => Command::new(program),
+    }
+}
+
 fn lines_of(program: &str, input: &[u8]) -> std::io::Result<Vec<u8>> {
-    let mut child = Command::new(program)
+    let mut child = process(program)
         .stdin(Stdio::piped())
         .stdout(Stdio::piped())
         .spawn()?;

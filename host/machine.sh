@@ -1,0 +1,47 @@
+# Sourced by the scripts of host/. The library and the programs that rt makes are for x86-64. What links
+# or runs them is built and run as ever on x86-64, and elsewhere by Debian's cross compilers and qemu.
+# shellcheck shell=bash
+
+emulator=
+if [ "$(uname -m)" != x86_64 ]; then
+    emulator=qemu-x86_64
+fi
+
+# run PROGRAM WORD..: runs a program that is for x86-64.
+run() {
+    ${emulator:+"$emulator"} "$@"
+}
+
+# compile COMPILER WORD..: calls gcc, g++ or clang so that it makes what is for x86-64.
+compile() {
+    case $emulator:$1 in
+        :*) "$@" ;;
+        *:clang*) "$1" --target=x86_64-linux-gnu "${@:2}" ;;
+        *) "x86_64-linux-gnu-$1" "${@:2}" ;;
+    esac
+}
+
+# need THING PACKAGE..: a command or a file, and the Debian packages that bring it where it is missing.
+missing=()
+need() {
+    command -v "$1" > /dev/null || [ -e "$1" ] || missing+=("${@:2}")
+}
+
+# need_cross: what C for x86-64 takes on another machine. clang takes its linker and libc from gcc's.
+need_cross() {
+    if [ -n "$emulator" ]; then
+        need "$emulator" qemu-user
+        need x86_64-linux-gnu-gcc gcc-x86-64-linux-gnu
+    fi
+}
+
+# install_missing: installs at one go what was needed and is missing. What is for x86-64 comes as packages of
+# Debian's architecture amd64, which is added.
+install_missing() {
+    if [ "${#missing[@]}" -gt 0 ]; then
+        echo "missing, so installed: ${missing[*]}" >&2
+        { [ -z "$emulator" ] || dpkg --add-architecture amd64; } &&
+            apt-get update -qq &&
+            DEBIAN_FRONTEND=noninteractive apt-get install -qq -y --no-install-recommends "${missing[@]}" > /dev/null
+    fi
+}

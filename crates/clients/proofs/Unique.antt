@@ -9,6 +9,7 @@ use Rattle.bits.proofs.number_from.Reads as bits-number-from
 use Rattle.bits.proofs.four_bytes.Reads as bits-four-bytes
 use Rattle.timer.proofs.Timer.fresh.Reads as timer-Timer-fresh
 use Rattle.timer.proofs.Timer.reset.Reads as timer-Timer-reset
+use Rattle.timer.proofs.Timer.written_out.Reads as timer-Timer-written-out
 use Rattle.timer.proofs.Timer.counts_events.Reads as timer-Timer-counts-events
 use Rattle.timer.proofs.Timer.delays.Reads as timer-Timer-delays
 use Rattle.timer.proofs.Timer.measures_pulses.Reads as timer-Timer-measures-pulses
@@ -26,6 +27,7 @@ use Rattle.interrupts.proofs.only_if.Reads as interrupts-only-if
 use Rattle.interrupts.proofs.half_of.Reads as interrupts-half-of
 use Rattle.interrupts.proofs.with_half.Reads as interrupts-with-half
 use Rattle.interrupts.proofs.Interrupts.clear.Reads as interrupts-Interrupts-clear
+use Rattle.interrupts.proofs.Interrupts.written_out.Reads as interrupts-Interrupts-written-out
 use Rattle.interrupts.proofs.Interrupts.read.Reads as interrupts-Interrupts-read
 use Rattle.interrupts.proofs.Interrupts.write.Reads as interrupts-Interrupts-write
 use Rattle.interrupts.proofs.Interrupts.raise.Reads as interrupts-Interrupts-raise
@@ -37,6 +39,7 @@ use Rattle.timers.proofs.Timeouts.zero.Reads as timers-Timeouts-zero
 use Rattle.timers.proofs.Timeouts.channels.Reads as timers-Timeouts-channels
 use Rattle.timers.proofs.Timers.fresh.Reads as timers-Timers-fresh
 use Rattle.timers.proofs.Timers.reset.Reads as timers-Timers-reset
+use Rattle.timers.proofs.Timers.written_out.Reads as timers-Timers-written-out
 use Rattle.timers.proofs.Timers.clocks.Reads as timers-Timers-clocks
 use Rattle.timers.proofs.Timers.count.Reads as timers-Timers-count
 use Rattle.timers.proofs.Timers.tcdcr.Reads as timers-Timers-tcdcr
@@ -45,6 +48,7 @@ use Rattle.timers.proofs.Timers.write.Reads as timers-Timers-write
 use Rattle.timers.proofs.Timers.outputs.Reads as timers-Timers-outputs
 use Rattle.timers.proofs.Timers.keeps_rule.Reads as timers-Timers-keeps-rule
 use Rattle.lines.proofs.Lines.fresh.Reads as lines-Lines-fresh
+use Rattle.lines.proofs.Lines.written_out.Reads as lines-Lines-written-out
 use Rattle.lines.proofs.Lines.reset.Reads as lines-Lines-reset
 use Rattle.lines.proofs.Lines.read.Reads as lines-Lines-read
 use Rattle.lines.proofs.Lines.write.Reads as lines-Lines-write
@@ -74,6 +78,7 @@ use Rattle.record.proofs.write_select.Reads as record-write-select
 use Rattle.record.proofs.Raw.verdict.Reads as record-Raw-verdict
 use Rattle.record.proofs.Raw.event.Reads as record-Raw-event
 use Rattle.answer.proofs.head.Reads as answer-head
+use Rattle.lent.proofs.event_by_value.Reads as lent-event-by-value
 use Rattle.image.proofs.load.Reads as image-load
 use Rattle.image.proofs.store.Reads as image-store
 use Rattle.image.proofs.save.Reads as image-save
@@ -84,6 +89,8 @@ use Rattle.tape.proofs.check.Reads as tape-check
 use Rattle.tape.proofs.run.Reads as tape-run
 use Rattle.mfp.proofs.mfp_run.Reads as mfp-mfp-run
 use Rattle.mfp.proofs.mfp_fresh.Reads as mfp-mfp-fresh
+use Rattle.transcript.proofs.transcript.Reads as transcript-transcript
+use Rattle.transcript.proofs.lent_transcript.Reads as transcript-lent-transcript
 
 -- the law: whatever a contract equates its outcome with, it leaves one
 one : {X : Type 0} {meant x y : X} → x ≡ meant → y ≡ meant → x ≡ y
@@ -108,6 +115,9 @@ timer-Timer-fresh-fixed κs a x y s t p q = one p q
 
 timer-Timer-reset-fixed : FixesResult timer-Timer-reset.Learnt
 timer-Timer-reset-fixed κs a x y s t p q = one p q
+
+timer-Timer-written-out-fixed : FixesResult timer-Timer-written-out.Learnt
+timer-Timer-written-out-fixed κs a x y s t p q = one p q
 
 timer-Timer-counts-events-fixed : FixesResult timer-Timer-counts-events.Learnt
 timer-Timer-counts-events-fixed κs a x y s t p q = one p q
@@ -161,6 +171,9 @@ interrupts-with-half-fixed κs a x y s t p q = one p q
 interrupts-Interrupts-clear-fixed : FixesResult interrupts-Interrupts-clear.Learnt
 interrupts-Interrupts-clear-fixed κs a x y s t p q = one p q
 
+interrupts-Interrupts-written-out-fixed : FixesResult interrupts-Interrupts-written-out.Learnt
+interrupts-Interrupts-written-out-fixed κs a x y s t p q = one p q
+
 interrupts-Interrupts-read-fixed : FixesResult interrupts-Interrupts-read.Learnt
 interrupts-Interrupts-read-fixed κs a x y s t p q = one p q
 
@@ -195,6 +208,9 @@ timers-Timers-fresh-fixed κs a x y s t p q = one p q
 timers-Timers-reset-fixed : FixesResult timers-Timers-reset.Learnt
 timers-Timers-reset-fixed κs a x y s t p q = one p q
 
+timers-Timers-written-out-fixed : FixesResult timers-Timers-written-out.Learnt
+timers-Timers-written-out-fixed κs a x y s t p q = one p q
+
 timers-Timers-clocks-fixed : FixesResult timers-Timers-clocks.Learnt
 timers-Timers-clocks-fixed κs a x y s t p q = one p q
 
@@ -219,6 +235,9 @@ timers-Timers-keeps-rule-fixed κs a x y s t p q = one p q
 -- ---- lines
 lines-Lines-fresh-fixed : FixesResult lines-Lines-fresh.Learnt
 lines-Lines-fresh-fixed κs a x y s t p q = one p q
+
+lines-Lines-written-out-fixed : FixesResult lines-Lines-written-out.Learnt
+lines-Lines-written-out-fixed κs a x y s t p q = one p q
 
 lines-Lines-reset-fixed : FixesResult lines-Lines-reset.Learnt
 lines-Lines-reset-fixed κs a x y s t p q = one p q
@@ -311,6 +330,10 @@ record-Raw-event-fixed κs a x y s t p q = one p q
 answer-head-fixed : FixesResult answer-head.Learnt
 answer-head-fixed κs a x y s t p q = one p q
 
+-- ---- lent
+lent-event-by-value-fixed : FixesResult lent-event-by-value.Learnt
+lent-event-by-value-fixed κs a x y s t p q = one p q
+
 -- ---- image
 image-load-fixed : FixesResult image-load.Learnt
 image-load-fixed κs a x y s t p q = one p q
@@ -368,3 +391,16 @@ mfp-mfp-fresh-fixed κs a x y s t p q = one (p .0) (q .0)
 
 mfp-mfp-fresh-buffer-fixed : FixesBuffer mfp-mfp-fresh.Learnt (λ κs s. now (s .0))
 mfp-mfp-fresh-buffer-fixed κs a x y s t p q = one (p .1) (q .1)
+
+-- ---- transcript
+transcript-transcript-fixed : FixesResult transcript-transcript.Learnt
+transcript-transcript-fixed κs a x y s t p q = one (p .0) (q .0)
+
+transcript-transcript-buffer-fixed : FixesBuffer transcript-transcript.Learnt (λ κs s. now (s .1 .0))
+transcript-transcript-buffer-fixed κs a x y s t p q = one (p .1 .0) (q .1 .0)
+
+transcript-lent-transcript-fixed : FixesResult transcript-lent-transcript.Learnt
+transcript-lent-transcript-fixed κs a x y s t p q = one (p .0) (q .0)
+
+transcript-lent-transcript-buffer-fixed : FixesBuffer transcript-lent-transcript.Learnt (λ κs s. now (s .1 .0))
+transcript-lent-transcript-buffer-fixed κs a x y s t p q = one (p .1 .0) (q .1 .0)

@@ -1,4 +1,4 @@
--- The statements that the README and docs/MAP.md send a reader to. Their proofs are in proofs/; Unique and Parts have theirs beside them.
+-- The statements that the README and docs/MAP.md send a reader to. Their proofs are in proofs/, a file for each.
 pub mod Examples
 pub mod Channels
 pub mod Rule

@@ -63,7 +63,7 @@ unfoldable pub imageRule : Device → Bool
 imageRule d = interruptRule (d .interrupts) && timersRule (d .timers)
 
 -- ---- an event of a device record
--- "3: image or device record breaks the image rule", "7: operand out of range"; "Every refusal leaves [..] device record [..] unchanged."
+-- 3: "image or device record breaks the image rule", 7: "operand out of range"; "Every refusal leaves [..] device record [..] unchanged."
 unfoldable pub handledOf : Device → Event → Handled
 handledOf d e =
     cond (imageRule d)

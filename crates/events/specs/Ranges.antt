@@ -10,7 +10,7 @@ use Rattle.events.specs.declared.Event.the-variants.{Reset, Read, Write,
 abbrev pub isSerialChannel : ℕ → Bool
 isSerialChannel a = leb 9 a && leb a 12
 
--- "7: operand out of range"
+-- 7: "operand out of range"
 abbrev pub inRange : Event → Bool
 inRange Reset = true
 inRange (Read r) = true

@@ -98,7 +98,7 @@ deviceOf b = record { lines = linesFrom b; interrupts = interruptsFrom b; timers
 unfoldable pub unusedZero : List ℕ → Bool
 unusedZero b = ltb (byte b 16) 128 && eqb (byte b 16 / 8 % 2) 0 && ltb (byte b 29) 16 && ltb (byte b 31) 4
 
--- "1: image buffer is not 32 bytes", "2: image mark wrong", "3: image or device record breaks the image rule", in this order
+-- 1: "image buffer is not 32 bytes", 2: "image mark wrong", 3: "image or device record breaks the image rule", in this order
 unfoldable pub loadOf : List ℕ → Loaded
 loadOf b =
     cond (eqb (length b) imageBytes)

@@ -9,7 +9,7 @@ use Rattle.events.specs.Numbers.{numberOf}
 use Rattle.device.specs.Events.{freshDevice}
 use Rattle.image.specs.Image.{imageBytes, storedOver}
 
--- "1: image buffer is not 32 bytes", else 0
+-- 1: "image buffer is not 32 bytes", else 0
 unfoldable pub freshResult : List ℕ → ℕ
 freshResult b = cond (eqb (length b) imageBytes) 0 (numberOf ImageLength)
 

@@ -15,7 +15,7 @@ use Rattle.record.specs.declared.Decoded.the-variants.{Valid, Invalid}
 use Rattle.record.specs.declared.Verdict.{Verdict}
 use Rattle.record.specs.declared.Verdict.the-variants.{Sound, Wrong}
 use Rattle.record.specs.Records.{reading, writing, ifInRange, kinds, eventOf}
-use Rattle.record.specs.Private.{verdictOf}
+use Rattle.record.specs.Verdicts.{verdictOf}
 
 -- ---- from a verdict back to what the record means
 -- the event of a record that has one

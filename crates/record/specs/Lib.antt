@@ -1,4 +1,4 @@
 -- A record's bytes and what they mean.
 pub mod Records
 pub mod Taken
-pub mod Private
+pub mod Verdicts

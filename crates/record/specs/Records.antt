@@ -69,7 +69,7 @@ readSelect rs = registerOf rs
 unfoldable pub writeSelect : ℕ → Selected
 writeSelect rs = registerOf rs
 
--- "8: read or write with rs 19 to 23"
+-- 8: "read or write with rs 19 to 23"
 abbrev pub reading : Selected → Decoded
 reading (Known r) = Valid (Read r)
 reading SerialPort = Invalid Serial
@@ -83,7 +83,7 @@ writing SerialPort v = Invalid Serial
 abbrev pub inputOf : ℕ → TimerInput
 inputOf a = cond (eqb a 0) Tai Tbi
 
--- "7: operand out of range": the event, if its operands are in range
+-- 7: "operand out of range": the event, if its operands are in range
 abbrev pub ifInRange : Bool → Decoded → Decoded
 ifInRange t e = cond t e (Invalid Operand)
 
@@ -100,7 +100,7 @@ kinds a n =
     ∷ ifInRange (isSerialChannel a && eqb n 0) (Valid (Raise (channel a)))
     ∷ []
 
--- "6: kind above 7"
+-- 6: "kind above 7"
 unfoldable pub eventOf : ℕ → ℕ → ℕ → Decoded
 eventOf kind a n = getD (kinds a n) kind (Invalid Kind)
 
@@ -109,6 +109,6 @@ eventOf kind a n = getD (kinds a n) kind (Invalid Kind)
 abbrev pub operand : Raw → ℕ
 operand r = number (r .n3) (r .n2) (r .n1) (r .n0)
 
--- "5: record mark wrong" first
+-- 5: "record mark wrong" first
 unfoldable pub meant : Raw → Decoded
 meant r = cond (eqb (r .mark0) recordMark0 && eqb (r .mark1) recordMark1) (eventOf (r .kind) (r .a) (operand r)) (Invalid RecordMark)

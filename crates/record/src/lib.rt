@@ -14,7 +14,7 @@ ghost use mathlib.Core.Path.{_≡_};
 ghost use mathlib.Core.Bool.{cond};
 ghost use Rattle.record.specs.Records.{registerOf, readSelect, writeSelect, reading, inputOf, eventOf, meant};
 ghost use Rattle.record.specs.Taken.{knownOf, taken};
-ghost use Rattle.record.specs.Private.{verdictOf};
+ghost use Rattle.record.specs.Verdicts.{verdictOf};
 
 pub const RECORD_BYTES: usize = 8;
 

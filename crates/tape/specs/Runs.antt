@@ -33,7 +33,7 @@ answersOf d (e ∷ es) = answerOf (stepOf d e) ++ answersOf (stepOf d e .device)
 abbrev pub code : Refusal → ℕ → ℕ
 code r i = 256 * i + numberOf r
 
--- "9: answer buffer shorter than 22 × records", after all records
+-- 9: "answer buffer shorter than 22 × records", after all records
 abbrev pub afterRecords : Checked → ℕ → ℕ → ℕ
 afterRecords (Bad r i) n room = code r i
 afterRecords Fine n room = cond (leb (answerBytes * n) room) 0 (code AnswerLength 0)

@@ -16,7 +16,7 @@ use Rattle.tape.specs.declared.Found.the-variants.{Means, Refused, PastE
 use Rattle.tape.specs.declared.Checked.{Checked}
 use Rattle.tape.specs.declared.Checked.the-variants.{Fine, Bad}
 
--- "4: tape length not a multiple of 8, or above 4,096"
+-- 4: "tape length not a multiple of 8, or above 4,096"
 abbrev pub tapeMost : ℕ
 tapeMost = 4096
 

@@ -14,14 +14,14 @@ use record::Raw;
 use record::Verdict;
 ghost use mathlib.Core.Path.{_≡_};
 ghost use mathlib.Core.List.{_++_};
-ghost use Prim.Native.Nat.{_+_, _*_, _≤_, _<_};
+ghost use Prim.Native.Nat.{_+_, _*_, _/_, _≤_, _<_};
 ghost use lib.ListN.{length, take, drop};
 ghost use Rattle.events.specs.declared.Event.{Event as EventT};
 ghost use Rattle.record.specs.declared.Decoded.the-variants.{Valid};
 ghost use Rattle.record.specs.Records.{recordBytes};
-ghost use Rattle.record.specs.Private.{verdictOf};
+ghost use Rattle.record.specs.Verdicts.{verdictOf};
 ghost use Rattle.answer.specs.Answers.{answerBytes, answerOf};
-ghost use Rattle.tape.specs.Tapes.{rawAt, decoded, recordAt, firstBad, events};
+ghost use Rattle.tape.specs.Tapes.{tapeMost, rawAt, decoded, recordAt, firstBad, events};
 ghost use Rattle.tape.specs.Runs.{runOf, answersOf, code, tapeResult, resultOf, imageAfter, answersAfter};
 
 pub const TAPE_MOST: usize = 4096;
@@ -153,7 +153,7 @@ fn put_answer(s: Stepped, answers: &mut [u8], at: usize)
 
 // The number of a refusal of record i.
 fn coded(r: Refusal, i: usize) -> u32
-    requires { ⌜ i < 512 ⌝ }
+    requires { ⌜ i < tapeMost / recordBytes ⌝ }
     ensures { λ c. ⌜ c ≡ code r i ⌝ }
 {
     256 * (i as u32) + events::number_of(r) as u32

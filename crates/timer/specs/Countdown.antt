@@ -1,4 +1,4 @@
--- A countdown, one unit at a time: what a timer's position (units: clocks) and its counter (units: count pulses) have in common.
+-- A countdown, one unit at a time: what a timer's position (units: clocks) and its counter (units: count pulses) have in common. Only private functions promise it; the rules are in Timers.
 use Prim.Native.Nat.{ℕ, zero, suc, _+_, _-_, _%_}
 use mathlib.Core.Bool.{Bool, cond, not}
 use lib.Dec.{eqb, ltb}

@@ -1,7 +1,7 @@
 -- `record::selects` meets its contract. Assumes nothing.
 use mathlib.Core.Path.{sym, ap}
 use borrow.Author.Needs.{needs}
-use Rattle.record.specs.Private.{verdictOf}
+use Rattle.record.specs.Verdicts.{verdictOf}
 use Rattle.record.specs.Records.{reading}
 use Rattle.record.proofs.selects.Statement.{statement}
 use Rattle.record.proofs.selects.Tie as tie

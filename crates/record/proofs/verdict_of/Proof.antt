@@ -2,7 +2,7 @@
 use mathlib.Core.Path.{refl, sym, ap, _∙_}
 use borrow.Author.Needs.{needs}
 use Rattle.record.proofs.Verdicts.{ranged, either-way, above-seven, past}
-use Rattle.record.specs.Private.{verdictOf}
+use Rattle.record.specs.Verdicts.{verdictOf}
 use Rattle.record.specs.Records.{readSelect, writeSelect, reading, writing, inputOf, eventOf}
 use Rattle.record.specs.declared.Decoded.the-variants.{Valid}
 use Rattle.record.specs.declared.Selected.{Selected}

@@ -2,7 +2,7 @@
 use mathlib.Core.Path.{ap, _∙_}
 use borrow.Author.Needs.{needs}
 use Rattle.tape.specs.Tapes.{decoded}
-use Rattle.record.specs.Private.{verdictOf}
+use Rattle.record.specs.Verdicts.{verdictOf}
 use Rattle.record.specs.Records.{meant}
 use Rattle.tape.proofs.verdict_at.Statement.{statement}
 use Rattle.tape.proofs.verdict_at.Tie as tie

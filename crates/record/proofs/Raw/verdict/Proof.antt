@@ -1,7 +1,7 @@
 -- `Raw::verdict` meets its contract: the mark, then kind and operands. Assumes nothing.
 use mathlib.Core.Path.{refl, ap, _∙_}
 use borrow.Author.Needs.{needs}
-use Rattle.record.specs.Private.{verdictOf}
+use Rattle.record.specs.Verdicts.{verdictOf}
 use Rattle.record.specs.Records.{eventOf, meant}
 use borrow.Author.Tests.{eq-eqb, ne-eqb}
 use Prim.Native.Nat.{ℕ}

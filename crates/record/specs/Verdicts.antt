@@ -1,4 +1,4 @@
--- What the check keeps of a record's meaning: that it has an event, or its refusal. No rule of the paper stands here.
+-- The verdict on a record: whether its bytes mean an event, or the refusal. What Records says of them, without the event.
 use Rattle.record.specs.declared.Decoded.{Decoded}
 use Rattle.record.specs.declared.Decoded.the-variants.{Valid, Invalid}
 use Rattle.record.specs.declared.Verdict.{Verdict}

@@ -9,7 +9,6 @@ use Rattle.bits.proofs.number_from.Reads as bits-number-from
 use Rattle.bits.proofs.four_bytes.Reads as bits-four-bytes
 use Rattle.timer.proofs.Timer.fresh.Reads as timer-Timer-fresh
 use Rattle.timer.proofs.Timer.reset.Reads as timer-Timer-reset
-use Rattle.timer.proofs.Timer.written_out.Reads as timer-Timer-written-out
 use Rattle.timer.proofs.Timer.counts_events.Reads as timer-Timer-counts-events
 use Rattle.timer.proofs.Timer.delays.Reads as timer-Timer-delays
 use Rattle.timer.proofs.Timer.measures_pulses.Reads as timer-Timer-measures-pulses
@@ -39,7 +38,6 @@ use Rattle.timers.proofs.Timeouts.zero.Reads as timers-Timeouts-zero
 use Rattle.timers.proofs.Timeouts.channels.Reads as timers-Timeouts-channels
 use Rattle.timers.proofs.Timers.fresh.Reads as timers-Timers-fresh
 use Rattle.timers.proofs.Timers.reset.Reads as timers-Timers-reset
-use Rattle.timers.proofs.Timers.written_out.Reads as timers-Timers-written-out
 use Rattle.timers.proofs.Timers.clocks.Reads as timers-Timers-clocks
 use Rattle.timers.proofs.Timers.count.Reads as timers-Timers-count
 use Rattle.timers.proofs.Timers.tcdcr.Reads as timers-Timers-tcdcr
@@ -115,9 +113,6 @@ timer-Timer-fresh-fixed κs a x y s t p q = one p q
 
 timer-Timer-reset-fixed : FixesResult timer-Timer-reset.Learnt
 timer-Timer-reset-fixed κs a x y s t p q = one p q
-
-timer-Timer-written-out-fixed : FixesResult timer-Timer-written-out.Learnt
-timer-Timer-written-out-fixed κs a x y s t p q = one p q
 
 timer-Timer-counts-events-fixed : FixesResult timer-Timer-counts-events.Learnt
 timer-Timer-counts-events-fixed κs a x y s t p q = one p q
@@ -207,9 +202,6 @@ timers-Timers-fresh-fixed κs a x y s t p q = one p q
 
 timers-Timers-reset-fixed : FixesResult timers-Timers-reset.Learnt
 timers-Timers-reset-fixed κs a x y s t p q = one p q
-
-timers-Timers-written-out-fixed : FixesResult timers-Timers-written-out.Learnt
-timers-Timers-written-out-fixed κs a x y s t p q = one p q
 
 timers-Timers-clocks-fixed : FixesResult timers-Timers-clocks.Learnt
 timers-Timers-clocks-fixed κs a x y s t p q = one p q

@@ -60,7 +60,7 @@ fn whole(d: Device, a: Answer, n: Timeouts) -> Begun
     let after = Device {
         lines: l.written_out(),
         interrupts: i.written_out(),
-        timers: t.written_out(),
+        timers: t,
     };
     Begun::Whole(Stepped {
         device: after,
@@ -189,15 +189,11 @@ impl Device {
         let next = u.timers;
         let m = u.timeouts;
         let d = Device {
-            lines: l.written_out(),
+            lines: l,
             interrupts: i.raise(m.channels()),
-            timers: next.written_out(),
+            timers: next,
         };
-        Begun::Whole(Stepped {
-            device: d,
-            answer: Answer::Done,
-            timeouts: m,
-        })
+        whole(d, Answer::Done, m)
     }
 
     pub fn read(self, r: Register) -> u8

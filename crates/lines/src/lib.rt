@@ -96,7 +96,8 @@ impl Lines {
         }
     }
 
-    // The same lines, written out field by field (D87).
+    // The same lines, written out field by field: the compiler then holds the fields apart, which a copy
+    // of the whole would tie together in every event (D87).
     pub fn written_out(self) -> Lines
         ensures { λ r. ⌜ r ≡ self ⌝ }
     {

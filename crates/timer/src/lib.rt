@@ -159,20 +159,6 @@ impl Timer {
         }
     }
 
-    // The same timer, written out field by field: the compiler then holds the fields apart, which a copy
-    // of the whole would tie together in every event (D87).
-    pub fn written_out(self) -> Timer
-        ensures { λ r. ⌜ r ≡ self ⌝ }
-    {
-        Timer {
-            mode: self.mode,
-            reload: self.reload,
-            counter: self.counter,
-            position: self.position,
-            output: self.output,
-        }
-    }
-
     pub fn counts_events(self) -> bool
         ensures { λ r. ⌜ r ≡ eventCount (self .mode) ⌝ }
     {

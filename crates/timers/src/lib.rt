@@ -121,22 +121,6 @@ impl Timers {
         }
     }
 
-    // The same timers, written out field by field (D87).
-    pub fn written_out(self) -> Timers
-        ensures { λ r. ⌜ r ≡ self ⌝ }
-    {
-        let a = self.a;
-        let b = self.b;
-        let c = self.c;
-        let d = self.d;
-        Timers {
-            a: a.written_out(),
-            b: b.written_out(),
-            c: c.written_out(),
-            d: d.written_out(),
-        }
-    }
-
     // n clocks at once; A's and B's inputs are active or not all the while.
     pub fn clocks(self, tai: bool, tbi: bool, n: u32) -> Advanced
         ensures { λ r. ⌜ r ≡ clockedBy tai tbi n self ⌝ }
@@ -177,8 +161,8 @@ impl Timers {
     {
         let of_a = self.a;
         let of_b = self.b;
-        let c = self.c;
-        let d = self.d;
+        let of_c = self.c;
+        let of_d = self.d;
         let n = Timeouts {
             a: once(bits::both(a, of_a.is_due())),
             b: once(bits::both(b, of_b.is_due())),
@@ -188,8 +172,8 @@ impl Timers {
         let t = Timers {
             a: pulse_if(a, of_a),
             b: pulse_if(b, of_b),
-            c: c.written_out(),
-            d: d.written_out(),
+            c: of_c,
+            d: of_d,
         };
         Advanced {
             timers: t,

@@ -6,9 +6,9 @@ use Rattle.device.proofs.whole.Tie as tie
 
 returns : tie.Need-returns
 returns c =
-    let a = c .before .before .before .before .before .before .args in
+    let a = c .before .before .before .before .before .args in
     λ k. Whole (record {
-      device = record { lines = c .before .before .written-out .ensures k; interrupts = c .before .written-out2 .ensures k; timers = c .written-out3 .ensures k };
+      device = record { lines = c .before .written-out .ensures k; interrupts = c .written-out2 .ensures k; timers = a .d .timers };
       answer = a .a;
       timeouts = a .n;
     })
@@ -17,7 +17,6 @@ pub whole-spec : {M : Type 1} → statement M
 whole-spec =
     tie.close
     (tie.spec
-    (λ c κs. search needs)
     (λ c κs. search needs)
     (λ c κs. search needs)
     returns)

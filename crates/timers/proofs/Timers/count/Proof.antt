@@ -7,14 +7,14 @@ use Rattle.timers.proofs.Timers.count.Tie as tie
 
 returns : tie.Need-returns
 returns c =
-    let a = c .before .before .before .before .before .before .before .before .before .before .before .before .before .before .args in
-    let due-a = c .before .before .before .before .before .before .before .before .both .ensures ∙ (λ k. a .a && c .before .before .before .before .before .before .before .before .before .is-due .ensures k) in
-    let due-b = c .before .before .before .before .before .both2 .ensures ∙ (λ k. a .b && c .before .before .before .before .before .before .is-due2 .ensures k) in
+    let a = c .before .before .before .before .before .before .before .before .before .before .before .before .args in
+    let due-a = c .before .before .before .before .before .before .both .ensures ∙ (λ k. a .a && c .before .before .before .before .before .before .before .is-due .ensures k) in
+    let due-b = c .before .before .before .both2 .ensures ∙ (λ k. a .b && c .before .before .before .before .is-due2 .ensures k) in
     λ k. record {
-      timers = record { a = c .before .before .before .pulse-if .ensures k; b = c .before .before .pulse-if2 .ensures k; c = c .before .written-out .ensures k; d = c .written-out2 .ensures k };
+      timers = record { a = c .before .pulse-if .ensures k; b = c .pulse-if2 .ensures k; c = a .self .c; d = a .self .d };
       timeouts = record {
-        a = (c .before .before .before .before .before .before .before .once .ensures ∙ (λ i. cond (due-a i) 1 0)) k;
-        b = (c .before .before .before .before .once2 .ensures ∙ (λ i. cond (due-b i) 1 0)) k;
+        a = (c .before .before .before .before .before .once .ensures ∙ (λ i. cond (due-a i) 1 0)) k;
+        b = (c .before .before .once2 .ensures ∙ (λ i. cond (due-b i) 1 0)) k;
         c = 0;
         d = 0;
       };
@@ -24,8 +24,6 @@ pub count-spec : {M : Type 1} → statement M
 count-spec =
     tie.close
     (tie.spec
-    (λ c κs. search needs)
-    (λ c κs. search needs)
     (λ c κs. search needs)
     (λ c κs. search needs)
     (λ c κs. search needs)

@@ -1,4 +1,5 @@
-//! The documents name only what there is, and leave out no public function and no must-fail edit.
+//! The documents name only what there is, and leave out no public function and no must-fail edit. No public
+//! function is left out of the law that it promises one outcome.
 #![deny(warnings)]
 
 use std::fs;
@@ -140,27 +141,78 @@ fn edits_named_are_there_and_all_are_listed() {
     assert!(seen > 60, "{seen}");
 }
 
+/// The public functions of a library: the path of each, as `Timer::fresh`, and the line that declares it.
+fn public_functions(library: &str) -> Vec<(String, String)> {
+    let mut functions = Vec::new();
+    let mut owner = String::new();
+    for line in source(library).lines() {
+        if let Some(rest) = line.strip_prefix("impl ") {
+            owner = rest.replace(" {", "::");
+        } else if line == "}" {
+            owner.clear();
+        }
+        let line = line.trim_start();
+        if let Some(rest) = line
+            .strip_prefix("pub fn ")
+            .or_else(|| line.strip_prefix("pub extern \"C\" fn "))
+        {
+            let name = rest.split('(').next().unwrap();
+            functions.push((format!("{owner}{name}"), line.to_string()));
+        }
+    }
+    functions
+}
+
 #[test]
 fn public_functions_are_listed() {
     let listed = read("docs/API.md");
     let mut seen = 0;
     for library in libraries() {
-        for line in source(&library).lines() {
-            let line = line.trim_start();
-            let Some(rest) = line
-                .strip_prefix("pub fn ")
-                .or_else(|| line.strip_prefix("pub extern \"C\" fn "))
-            else {
-                continue;
-            };
-            let name = rest.split('(').next().unwrap();
-            let row = [format!("`{name}("), format!("::{name}(")];
-            let here = row.iter().any(|start| listed.contains(start));
-            assert!(here, "docs/API.md lacks {library}: {name}");
+        let heading = format!("{library}\n");
+        let section = listed
+            .split("\n## ")
+            .find(|section| section.starts_with(&heading))
+            .unwrap_or("");
+        for (path, _) in public_functions(&library) {
+            let rows = section.matches(&format!("\n| `{path}(")).count();
+            assert_eq!(rows, 1, "docs/API.md: {library}: {path}");
             seen += 1;
         }
     }
-    assert!(seen > 50, "{seen}");
+    assert!(seen > 80, "{seen}");
+}
+
+/// Of each result and each buffer lent to be written. The contracts of clients are demands, and no plain
+/// promise can be read off that of `lent::event`.
+#[test]
+fn public_functions_promise_one_outcome() {
+    let laws = read("crates/clients/proofs/Unique.antt");
+    let mut seen = 0;
+    for library in libraries().iter().filter(|library| *library != "clients") {
+        for (path, line) in public_functions(library) {
+            if library == "lent" && path == "event" {
+                continue;
+            }
+            let name = format!("{library}-{path}")
+                .replace("::", "-")
+                .replace('_', "-");
+            let read_off = format!(
+                "{library}.proofs.{}.Reads as {name}\n",
+                path.replace("::", ".")
+            );
+            assert!(laws.contains(&read_off), "{read_off}");
+            let result = laws
+                .matches(&format!(": FixesResult {name}.Learnt\n"))
+                .count();
+            assert_eq!(result, line.matches(" -> ").count(), "{library}: {path}");
+            let buffers = laws
+                .matches(&format!(": FixesBuffer {name}.Learnt "))
+                .count();
+            assert_eq!(buffers, line.matches("&mut ").count(), "{library}: {path}");
+            seen += 1;
+        }
+    }
+    assert!(seen > 80, "{seen}");
 }
 
 #[test]

@@ -22,12 +22,12 @@ use Rattle.bits.specs.Bytes.{byte}
 use Rattle.image.specs.Image.{imageOf, deviceOf}
 use Rattle.record.specs.Records.{recordBytes}
 use Rattle.tape.specs.Tapes.{decoded, records, events}
-use Rattle.answer.specs.Answers.{answerBytes, answerMark0, answerMark1, answerOf}
+use Rattle.answer.specs.Answers.{answerBytes, answerMark0, answerMark1, answerOf, headBytes}
 use Rattle.tape.specs.Tapes.{tapeMost}
 use Rattle.tape.specs.Runs.{runOf, resultOf}
 use Rattle.demands.specs.Clocks as C
 use Rattle.demands.specs.Refusals.{GoodRecord, GoodBefore}
-use Rattle.demands.specs.Tapes.{mostClocks, deviceBefore, answerTo, countsFrom, countAt, Spanned, SaysDone, SameBut}
+use Rattle.demands.specs.Tapes.{mostClocks, deviceBefore, answerTo, countAt, Spanned, SaysDone, SameBut}
 use Rattle.demands.proofs.TapeParts.{Place, is-before, is-here, is-after, place, events-agree}
 use Rattle.demands.proofs.Clocks.{joined-device, joined-counts}
 use Rattle.demands.proofs.Records.{meaning-is-good, same-meaning-is-good}
@@ -66,7 +66,7 @@ timeouts-within k (suc n) d = omega (arith, counts-add k (clockTimeouts d) (time
 
 -- ---- the answers to clocks
 -- all bytes but the counts tell of the answer and of the device after it
-heads-agree : (s t : Stepped) → s .answer ≡ t .answer → s .device ≡ t .device → take countsFrom (answerOf s) ≡ take countsFrom (answerOf t)
+heads-agree : (s t : Stepped) → s .answer ≡ t .answer → s .device ≡ t .device → take headBytes (answerOf s) ≡ take headBytes (answerOf t)
 unfolding answerOf
 heads-agree s t p q = ap₂ (λ (a : Answer) (d : Device). answerMark0 ∷ answerMark1 ∷ classOf a ∷ valueOf a ∷ bitValue (irqOf d) 1 ∷ shownOutputs d ∷ []) p q
 
@@ -173,12 +173,12 @@ module _ (image cut joined : List ℕ) (i m n : ℕ) (s : Spanned cut joined i m
     whole-answer : answerTo image joined answers i ≡ answerOf whole
     whole-answer = answer-left image joined answers ok′ i (s .within) (Clocks (m + n)) (s .whole)
 
-    head : take countsFrom (answerTo image cut answers′ (i + 1)) ≡ take countsFrom (answerTo image joined answers i)
+    head : take headBytes (answerTo image cut answers′ (i + 1)) ≡ take headBytes (answerTo image joined answers i)
     unfolding stepOf
-    head = ap (take countsFrom) second-answer ∙ heads-agree second whole refl (sym same-device) ∙ ap (take countsFrom) (sym whole-answer)
+    head = ap (take headBytes) second-answer ∙ heads-agree second whole refl (sym same-device) ∙ ap (take headBytes) (sym whole-answer)
 
-    head-byte : (k : ℕ) → k < countsFrom → byte (answerTo image cut answers′ (i + 1)) k ≡ byte (answerTo image joined answers i) k
-    head-byte k h = sym (getD-take countsFrom (answerTo image cut answers′ (i + 1)) k 0 h) ∙ ap (λ (a : List ℕ). byte a k) head ∙ getD-take countsFrom (answerTo image joined answers i) k 0 h
+    head-byte : (k : ℕ) → k < headBytes → byte (answerTo image cut answers′ (i + 1)) k ≡ byte (answerTo image joined answers i) k
+    head-byte k h = sym (getD-take headBytes (answerTo image cut answers′ (i + 1)) k 0 h) ∙ ap (λ (a : List ℕ). byte a k) head ∙ getD-take headBytes (answerTo image joined answers i) k 0 h
 
     counts : (k : ℕ) → k < 4 → countAt k (answerTo image joined answers i) ≡ countAt k (answerTo image cut answers′ i) + countAt k (answerTo image cut answers′ (i + 1))
     counts k h =

@@ -1,5 +1,5 @@
 -- Demand 1: "Every image, tape of events and answer buffer, good or broken, gets either its answer or one of nine numbered refusals, given under the conditions in document 01 and no others [..] A refused call leaves the lent image and answer buffer as they came."
--- `Given` is the table of document 01, a row a constructor. Every call has its row (`EachCallHasItsRow`) and no other (`NoOtherRow`). Proved in proofs/Refusals.antt.
+-- `Given` is the table of document 01, a row a constructor. Every call has its row (`EachCallHasItsRow`) and no other (`NoOtherRow`). Proved in proofs/Refusals.antt, `GoodRecordHasEvent` in proofs/Records.antt.
 use Prim.Native.Nat.{ℕ, _+_, _*_, _%_, _≤_, _<_}
 use mathlib.Core.Path.{_≡_}
 use mathlib.Core.Bool.{true}
@@ -7,18 +7,15 @@ use mathlib.Core.List.{List, _++_}
 use mathlib.Core.Logic.{_⊎_, _↔_}
 use lib.ListN.{length, drop}
 use Rattle.events.specs.declared.Event.{Event}
-use Rattle.events.specs.declared.Refusal.{Refusal}
 use Rattle.device.specs.Events.{imageRule}
 use Rattle.image.specs.declared.Loaded.the-variants.{Accepted}
 use Rattle.image.specs.Image.{imageBytes, imageOf, deviceOf, unusedZero, loadOf}
-use Rattle.bits.specs.Bytes.{byte}
+use Rattle.bits.specs.Bytes.{byte, number}
 use Rattle.record.specs.declared.Decoded.the-variants.{Valid}
 use Rattle.record.specs.Records.{recordBytes}
-use Rattle.bits.specs.Bytes.{number}
-use Rattle.tape.specs.Tapes.{records, decoded, eventsOf}
+use Rattle.tape.specs.Tapes.{tapeMost, records, decoded, eventsOf}
 use Rattle.answer.specs.Answers.{answerBytes}
-use Rattle.tape.specs.Tapes.{tapeMost}
-use Rattle.tape.specs.Runs.{runOf, answersOf, code, resultOf, imageAfter, answersAfter}
+use Rattle.tape.specs.Runs.{runOf, answersOf, resultOf, imageAfter, answersAfter}
 
 -- ---- an image
 -- "0–1 mark 4D 31"

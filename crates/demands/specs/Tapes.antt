@@ -7,14 +7,11 @@ use lib.ListN.{length, take, drop}
 use Rattle.device.specs.declared.Device.{Device}
 use Rattle.events.specs.declared.Event.{Event}
 use Rattle.events.specs.declared.Event.the-variants.{Clocks}
-use Rattle.bits.specs.Bytes.{byte}
+use Rattle.bits.specs.Bytes.{byte, number, four}
 use Rattle.image.specs.Image.{deviceOf}
 use Rattle.record.specs.Records.{recordBytes, recordMark0, recordMark1}
-use Rattle.bits.specs.Bytes.{number}
-use Rattle.tape.specs.Tapes.{decoded, records, events}
-use Rattle.answer.specs.Answers.{answerBytes}
-use Rattle.bits.specs.Bytes.{four}
-use Rattle.tape.specs.Tapes.{tapeMost}
+use Rattle.tape.specs.Tapes.{tapeMost, decoded, records, events}
+use Rattle.answer.specs.Answers.{answerBytes, headBytes, countBytes}
 use Rattle.tape.specs.Runs.{runOf, resultOf, imageAfter, answersAfter}
 use Rattle.demands.specs.Refusals.{Means}
 
@@ -58,17 +55,13 @@ requestAt answer = byte answer 4
 abbrev pub outputsAt : List ℕ → ℕ
 outputsAt answer = byte answer 5
 
--- where the counts begin
-abbrev pub countsFrom : ℕ
-countsFrom = 6
-
 -- a number in four bytes, high byte first
 abbrev pub numberAt : List ℕ → ℕ → ℕ
 numberAt bytes at = number (byte bytes at) (byte bytes (at + 1)) (byte bytes (at + 2)) (byte bytes (at + 3))
 
--- count k: of A, B, C and D
+-- count k, from the answer's head on: of A, B, C and D
 abbrev pub countAt : ℕ → List ℕ → ℕ
-countAt k answer = numberAt answer (countsFrom + 4 * k)
+countAt k answer = numberAt answer (headBytes + countBytes * k)
 
 -- ---- a span cut in two, and the same span joined
 -- Records i and i + 1 of the one tape mean m and n clocks, record i of the other means their sum, and all other records mean the same.
@@ -102,7 +95,7 @@ pub record SameButCounts (image image′ cut joined : List ℕ) (n i : ℕ) : Ty
   pub first-done : SaysDone (answerIn cut i)
   pub second-done : SaysDone (answerIn cut (i + 1))
   pub whole-done : SaysDone (answerIn joined i)
-  pub head : take countsFrom (answerIn cut (i + 1)) ≡ take countsFrom (answerIn joined i)
+  pub head : take headBytes (answerIn cut (i + 1)) ≡ take headBytes (answerIn joined i)
 
 abbrev pub SameBut : List ℕ → List ℕ → List ℕ → List ℕ → List ℕ → ℕ → Type 0
 SameBut image cut answers′ joined answers i =

@@ -1,4 +1,4 @@
-// The 32-byte image of a device: load, save, fresh. The layout stands in specs/Image.antt. No
+// The 32-byte image of a device: load, save, store. The layout stands in specs/Image.antt. No
 // function has a `requires` but the private readers, which want a whole image.
 use device::Device;
 use events::Refusal;

@@ -1,6 +1,6 @@
 -- Document 01, "Registers" and "Channels": the rules of the interrupt controller, in the paper's words.
 use Prim.Native.Nat.{ℕ, zero, suc, _+_, _-_, _*_, _/_, _%_, _^_}
-use mathlib.Core.Bool.{Bool, true, false, cond, not, _&&_, _||_}
+use mathlib.Core.Bool.{Bool, true, false, cond, _&&_, _||_}
 use lib.Bits.{bitAnd, bitOr}
 use lib.Dec.{ltb, eqb}
 use Rattle.interrupts.specs.Channels.{has, setOf, channel, half, withHalf}

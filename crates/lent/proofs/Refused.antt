@@ -1,4 +1,4 @@
--- "3: image or device record breaks the image rule", "7: operand out of range": what each refusal answers, under which condition, and that it leaves the record as it came.
+-- 3: "image or device record breaks the image rule", 7: "operand out of range": what each refusal answers, under which condition, and that it leaves the record as it came.
 -- Assumes nothing.
 use mathlib.Core.Path.{_≡_, refl}
 use mathlib.Core.Bool.{Bool, true, false, cond}

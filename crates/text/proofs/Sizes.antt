@@ -7,7 +7,8 @@ use lib.ListN.{length, length-append}
 use Rattle.events.specs.declared.Answer.{Answer}
 use Rattle.events.specs.declared.Answer.the-variants.{Done, Data, Vector, PassedOn, Held}
 use Rattle.timers.specs.declared.Timeouts.{Timeouts}
-use Rattle.text.specs.Lines.{bytes, decimal, hexByte, spaced, ended, middleOf, countsOf, lineOf, refusedLine, indexMost, middleBytes, countMost, countsMost, lineMost}
+use Rattle.text.specs.Lines.{bytes, decimal, hexByte, spaced, ended, middleOf, countsOf, lineOf, refusedLine, lineMost}
+use Rattle.text.specs.Private.{indexMost, middleBytes, countMost, countsMost}
 use Rattle.text.proofs.Decimal.{at-most}
 
 -- ---- numbers: what the digits take, and with a space or the end of the line after them

@@ -90,21 +90,6 @@ unfoldable pub refusedLine : ℕ → ℕ → List ℕ
 refusedLine number index = spaced (bytes "refused") ++ (spaced (decimal number) ++ ended (decimal index))
 
 -- ---- sizes
--- an index, at most 65,535, and the byte after it
-abbrev pub indexMost : ℕ
-indexMost = 5 + 1
-
--- class, value, IRQ and outputs, each with its space
-abbrev pub middleBytes : ℕ
-middleBytes = 2 + 3 + 2 + 5
-
--- a count, at most 4,294,967,295, and the byte after it
-abbrev pub countMost : ℕ
-countMost = 10 + 1
-
-abbrev pub countsMost : ℕ
-countsMost = 4 * countMost
-
 -- a buffer of so many bytes holds every line
 abbrev pub lineMost : ℕ
 lineMost = 64

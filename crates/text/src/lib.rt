@@ -7,8 +7,8 @@ ghost use mathlib.Core.Path.{_≡_};
 ghost use mathlib.Core.List.{[], _∷_, _++_};
 ghost use Prim.Native.Nat.{_+_, _≤_, _<_};
 ghost use lib.ListN.{length};
-ghost use Rattle.text.specs.Lines.{decimal, hexDigit, hexByte, classLetter, valueText, irqDigit, middleOf, countsOf, lineOf, refusedLine, countsMost, written, writtenLength, Counts};
-ghost use Rattle.text.specs.Private.{Puts};
+ghost use Rattle.text.specs.Lines.{decimal, hexDigit, hexByte, classLetter, valueText, irqDigit, middleOf, countsOf, lineOf, refusedLine, written, writtenLength, Counts};
+ghost use Rattle.text.specs.Private.{Puts, countsMost};
 
 // The bytes of class, value, IRQ and outputs, and of a buffer that holds every line.
 const MIDDLE_BYTES: usize = 12;

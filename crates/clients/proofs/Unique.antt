@@ -73,8 +73,9 @@ use Rattle.device.proofs.Device.keeps_rule.Reads as device-Device-keeps-rule
 use Rattle.device.proofs.Device.handle.Reads as device-Device-handle
 use Rattle.record.proofs.read_select.Reads as record-read-select
 use Rattle.record.proofs.write_select.Reads as record-write-select
+use Rattle.record.proofs.known.Reads as record-known
+use Rattle.record.proofs.input_of.Reads as record-input-of
 use Rattle.record.proofs.Raw.verdict.Reads as record-Raw-verdict
-use Rattle.record.proofs.Raw.event.Reads as record-Raw-event
 use Rattle.answer.proofs.head.Reads as answer-head
 use Rattle.lent.proofs.event_by_value.Reads as lent-event-by-value
 use Rattle.image.proofs.load.Reads as image-load
@@ -312,11 +313,14 @@ record-read-select-fixed κs a x y s t p q = one p q
 record-write-select-fixed : FixesResult record-write-select.Learnt
 record-write-select-fixed κs a x y s t p q = one p q
 
+record-known-fixed : FixesResult record-known.Learnt
+record-known-fixed κs a x y s t p q = one p q
+
+record-input-of-fixed : FixesResult record-input-of.Learnt
+record-input-of-fixed κs a x y s t p q = one p q
+
 record-Raw-verdict-fixed : FixesResult record-Raw-verdict.Learnt
 record-Raw-verdict-fixed κs a x y s t p q = one p q
-
-record-Raw-event-fixed : FixesResult record-Raw-event.Learnt
-record-Raw-event-fixed κs a x y s t p q = one p q
 
 -- ---- answer
 answer-head-fixed : FixesResult answer-head.Learnt

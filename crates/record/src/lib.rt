@@ -14,7 +14,7 @@ use timers::TimerRegister;
 ghost use mathlib.Core.Path.{_≡_};
 ghost use mathlib.Core.Bool.{cond};
 ghost use Rattle.record.specs.Records.{registerOf, readSelect, writeSelect, reading, inputOf, eventOf, meant};
-ghost use Rattle.record.specs.Taken.{knownOf, taken};
+ghost use Rattle.record.specs.Taken.{knownOf};
 ghost use Rattle.record.specs.Verdicts.{verdictOf};
 
 pub const RECORD_BYTES: usize = 8;
@@ -97,7 +97,7 @@ pub fn write_select(rs: u8) -> Selected
 }
 
 // The register of a select that the check has let pass.
-fn known(s: Selected) -> Register
+pub fn known(s: Selected) -> Register
     ensures { λ r. ⌜ r ≡ knownOf s ⌝ }
 {
     match s {
@@ -107,7 +107,7 @@ fn known(s: Selected) -> Register
 }
 
 // The input of number a, 0 or 1.
-fn input_of(a: u8) -> TimerInput
+pub fn input_of(a: u8) -> TimerInput
     ensures { λ r. ⌜ r ≡ inputOf a ⌝ }
 {
     if a == 0 {
@@ -171,26 +171,5 @@ impl Raw {
         }
         let n = bits::number_from(self.n3, self.n2, self.n1, self.n0);
         verdict_of(self.kind, self.a, n)
-    }
-
-    // The event of a record that the check lets pass: then n is its lowest byte in all kinds but 5. The
-    // event is written out in each arm, not handed on from a call, so that the compiler keeps it in
-    // registers.
-    pub fn event(self) -> Event
-        ensures { λ r. ⌜ r ≡ taken self ⌝ }
-    {
-        let kind = self.kind;
-        let a = self.a;
-        let n0 = self.n0;
-        match kind {
-            0 => Event::Reset,
-            1 => Event::Read(known(read_select(a))),
-            2 => Event::Write(known(write_select(a)), n0),
-            3 => Event::Level(Line(a), n0 == 1),
-            4 => Event::Input(input_of(a), n0 == 1),
-            5 => Event::Clocks(bits::number_from(self.n3, self.n2, self.n1, n0)),
-            6 => Event::Acknowledge(a == 1),
-            _ => Event::Raise(Channel(a)),
-        }
     }
 }

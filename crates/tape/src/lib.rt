@@ -9,6 +9,8 @@ use device::Stepped;
 use events::Event;
 use events::Refusal;
 use image::Loaded;
+use interrupts::Channel;
+use interrupts::Line;
 use record::RECORD_BYTES;
 use record::Raw;
 use record::Verdict;
@@ -58,13 +60,28 @@ fn raw_at(tape: &[u8], at: usize) -> Raw
     }
 }
 
-// The event of that record, if the check lets it pass.
+// The event of that record, if the check lets it pass: then n is its lowest byte in all kinds but 5. Each
+// arm reads its own bytes and writes its event out, so that the compiler keeps it in registers (D87).
 fn event_at(tape: &[u8], at: usize) -> Event
     requires { ⌜ at + recordBytes ≤ length (now tape) ⌝ }
     ensures { λ r. ⌜ ((e : EventT) → decoded (now (tape .entry)) at ≡ Valid e → r ≡ e) ⌝ }
 {
-    let r = raw_at(tape, at);
-    r.event()
+    let a = tape[at + 3];
+    match tape[at + 2] {
+        0 => Event::Reset,
+        1 => Event::Read(record::known(record::read_select(a))),
+        2 => Event::Write(record::known(record::write_select(a)), tape[at + 7]),
+        3 => Event::Level(Line(a), tape[at + 7] == 1),
+        4 => Event::Input(record::input_of(a), tape[at + 7] == 1),
+        5 => Event::Clocks(bits::number_from(
+            tape[at + 4],
+            tape[at + 5],
+            tape[at + 6],
+            tape[at + 7],
+        )),
+        6 => Event::Acknowledge(a == 1),
+        _ => Event::Raise(Channel(a)),
+    }
 }
 
 // What the check finds of it.
@@ -197,7 +214,15 @@ fn run_records(d: Device, tape: &[u8], answers: &mut [u8], n: usize) -> Device
         let e = event_at(tape, i * RECORD_BYTES);
         let s = at.step(e);
         put_answer(s, answers, i * ANSWER_BYTES);
-        at = s.device;
+        let next = s.device;
+        let l = next.lines;
+        let q = next.interrupts;
+        let t = next.timers;
+        at = Device {
+            lines: l.written_out(),
+            interrupts: q.written_out(),
+            timers: t,
+        };
         i += 1;
     }
     at

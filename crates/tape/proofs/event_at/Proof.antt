@@ -1,20 +1,94 @@
--- `tape::event_at` meets its contract: what is taken of a record let pass is what it means. Assumes nothing.
-use mathlib.Core.Path.{ap, _∙_}
+-- `tape::event_at` meets its contract: what is taken of a record let pass, kind by kind, is what it means. Assumes nothing.
+use Prim.Native.Nat.{ℕ, _+_, zero-le}
+use mathlib.Core.List.{List}
+use mathlib.Core.Path.{_≡_, refl, sym, ap, _∙_}
 use borrow.Author.Needs.{needs}
-use Rattle.tape.specs.Tapes.{rawAt, decoded}
+use lib.Dec.{eqb}
+use lib.ListN.{getD, List·getD-eq-default}
+use Rattle.bits.specs.Bytes.{byte}
+use Rattle.interrupts.specs.Channels.{channel}
+use Rattle.events.specs.declared.Event.{Event}
+use Rattle.events.specs.declared.Event.the-variants.{Read, Write, Input, Clocks, Raise}
+use Rattle.record.specs.declared.Decoded.the-variants.{Valid}
+use Rattle.record.specs.Taken.{knownOf, takenAs, taken}
 use Rattle.record.proofs.Taken.{taken-is-meant}
-use Rattle.record.specs.Taken.{taken}
+use Rattle.record.proofs.Verdicts.{past}
+use Rattle.tape.specs.Tapes.{rawAt, decoded}
 use Rattle.tape.proofs.event_at.Statement.{statement}
 use Rattle.tape.proofs.event_at.Tie as tie
 
+module _ (tape : List ℕ) (at : ℕ) where
+  abbrev byKind : ℕ → Event
+  byKind k = getD (takenAs (rawAt tape at)) k (Raise (channel (byte tape (at + 3))))
+
+  -- the event of a record of kind k, if the check lets it pass
+  meant-as : (x : Event) → x ≡ byKind (byte tape (at + 2)) → (e : Event) → decoded tape at ≡ Valid e → x ≡ e
+  unfolding decoded taken
+  meant-as x q e p = q ∙ taken-is-meant (rawAt tape at) e p
+
+  of-kind : (k : ℕ) → byte tape (at + 2) ≡ k → (x : Event) → x ≡ byKind k → (e : Event) → decoded tape at ≡ Valid e → x ≡ e
+  of-kind k is x q = meant-as x (q ∙ ap byKind (sym is))
+
 returns : tie.Need-returns
-unfolding decoded
-returns c = λ e p. let a = c .before .before .before .args in c .event .ensures ∙ ap taken (c .before .raw-at .ensures) ∙ taken-is-meant (rawAt (a .tape .now) (a .at)) e p
+returns c = let a = c .before .before .before .before .args in of-kind (a .tape .now) (a .at) 0 (c .match .keys1) _ refl
+
+returns-2 : tie.Need-returns-2
+returns-2 c = let a = c .before .before .before .before .before .before .args in of-kind (a .tape .now) (a .at) 1 (c .before .before .match .keys2) _ (ap Read (c .known .ensures ∙ ap knownOf (c .before .read-select .ensures)))
+
+returns-3 : tie.Need-returns-3
+returns-3 c = let a = c .before .before .before .before .before .before .before .args in of-kind (a .tape .now) (a .at) 2 (c .before .before .before .match .keys3) _ (ap (λ q. Write q (byte (a .tape .now) (a .at + 7))) (c .before .known2 .ensures ∙ ap knownOf (c .before .before .write-select .ensures)))
+
+returns-4 : tie.Need-returns-4
+returns-4 c = let a = c .before .before .before .before .before .args in of-kind (a .tape .now) (a .at) 3 (c .before .match .keys4) _ refl
+
+returns-5 : tie.Need-returns-5
+returns-5 c = let a = c .before .before .before .before .before .before .args in of-kind (a .tape .now) (a .at) 4 (c .before .before .match .keys5) _ (ap (λ i. Input i (eqb (byte (a .tape .now) (a .at + 7)) 1)) (c .before .input-of .ensures))
+
+returns-6 : tie.Need-returns-6
+returns-6 c = let a = c .before .before .before .before .before .before .before .before .before .args in of-kind (a .tape .now) (a .at) 5 (c .before .before .before .before .before .match .keys6) _ (ap Clocks (c .number-from .ensures))
+
+returns-7 : tie.Need-returns-7
+returns-7 c = let a = c .before .before .before .before .args in of-kind (a .tape .now) (a .at) 6 (c .match .keys7) _ refl
+
+returns-8 : tie.Need-returns-8
+returns-8 c =
+    let a = c .before .before .before .before .args in
+    let r = c .match .rest in
+    meant-as (a .tape .now) (a .at) _ (sym (List·getD-eq-default (takenAs (rawAt (a .tape .now) (a .at))) (Raise (channel (byte (a .tape .now) (a .at + 3)))) (past (past (past (past (past (past (past zero-le (r .0 .0 .0 .0 .0 .0 .1)) (r .0 .0 .0 .0 .0 .1)) (r .0 .0 .0 .0 .1)) (r .0 .0 .0 .1)) (r .0 .0 .1)) (r .0 .1)) (r .1))))
 
 pub event-at-spec : {M : Type 1} → statement M
 event-at-spec =
     tie.close
     (tie.spec
+    (λ c. search needs)
+    (λ c. search needs)
+    (λ c. search needs)
+    (λ c. search needs)
     (λ c κs. search needs)
     (λ c κs. search needs)
-    returns)
+    (λ c κs. search needs)
+    (λ c κs. search needs)
+    (λ c. search needs)
+    (λ c. search needs)
+    (λ c. search needs)
+    (λ c. search needs)
+    (λ c κs. search needs)
+    (λ c. search needs)
+    (λ c. search needs)
+    (λ c. search needs)
+    (λ c. search needs)
+    (λ c. search needs)
+    (λ c. search needs)
+    (λ c. search needs)
+    (λ c. search needs)
+    (λ c. search needs)
+    (λ c. search needs)
+    (λ c κs. search needs)
+    returns
+    returns-2
+    returns-3
+    returns-4
+    returns-5
+    returns-6
+    returns-7
+    returns-8)

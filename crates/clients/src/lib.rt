@@ -8,12 +8,24 @@ ghost use mathlib.Core.Path.{_≡_};
 ghost use lib.ListN.{length};
 ghost use Rattle.image.specs.Image.{imageBytes};
 ghost use Rattle.demands.specs.Refusals.{Given, Ends};
-ghost use Rattle.clients.specs.Clients.{SavedAndLoaded, RanNothing, JoinedOrCut};
+ghost use Rattle.clients.specs.Clients.{SavedAndLoaded, LoadedAndSaved, RanNothing, JoinedOrCut};
 
 // What two runs returned.
 pub struct Codes {
     pub cut: u32,
     pub joined: u32,
+}
+
+// What a save and a load returned.
+pub struct SavedLoaded {
+    pub saved: Saved,
+    pub loaded: Loaded,
+}
+
+// What a fresh image and a run on it returned.
+pub struct FreshRun {
+    pub fresh: u32,
+    pub run: u32,
 }
 
 // Demand 1: what a run returns is a row of the table of refusals, or 0.
@@ -31,16 +43,20 @@ pub fn run_answers_or_refuses(image: &mut [u8], tape: &[u8], answers: &mut [u8])
 }
 
 // Demand 2: a device saved and loaded again is the same device.
-pub fn save_then_load(d: Device, image: &mut [u8]) -> Loaded
-    ensures { λ r. ⌜ SavedAndLoaded (now (image .entry)) d r ⌝ }
+pub fn save_then_load(d: Device, image: &mut [u8]) -> SavedLoaded
+    ensures { λ r. ⌜ SavedAndLoaded (now (image .entry)) d (r .saved) (r .loaded) ⌝ }
 {
-    image::save(d, image);
-    image::load(image)
+    let s = image::save(d, image);
+    let l = image::load(image);
+    SavedLoaded {
+        saved: s,
+        loaded: l,
+    }
 }
 
-// Demand 2: an image loaded and saved again is the same bytes, and so is any other buffer.
+// Demand 2: an accepted image loaded and saved again is the same bytes, and so is any other buffer.
 pub fn load_then_save(image: &mut [u8]) -> Saved
-    ensures { λ _. ⌜ now (image .exit) ≡ now (image .entry) ⌝ }
+    ensures { λ r. ⌜ LoadedAndSaved (now (image .entry)) (now (image .exit)) r ⌝ }
 {
     let l = image::load(image);
     match l {
@@ -50,11 +66,13 @@ pub fn load_then_save(image: &mut [u8]) -> Saved
 }
 
 // A fresh image is accepted and runs; the empty tape leaves it fresh.
-pub fn fresh_runs_nothing(image: &mut [u8], tape: &[u8], answers: &mut [u8]) -> u32
-    ensures { λ r. ⌜ (length (now (image .entry)) ≡ imageBytes → RanNothing (now (image .exit)) r) ⌝ }
+pub fn fresh_runs_nothing(image: &mut [u8], tape: &[u8], answers: &mut [u8]) -> FreshRun
+    ensures { λ r. ⌜ (length (now (image .entry)) ≡ imageBytes
+        → RanNothing (now (answers .entry)) (r .fresh) (r .run) (now (image .exit)) (now (answers .exit))) ⌝ }
 {
-    mfp::mfp_fresh(image);
-    mfp::mfp_run(image, &tape[..0], answers)
+    let f = mfp::mfp_fresh(image);
+    let r = mfp::mfp_run(image, &tape[..0], answers);
+    FreshRun { fresh: f, run: r }
 }
 
 // Demand 3: a span's clock records cut or joined, by two runs on equal images.

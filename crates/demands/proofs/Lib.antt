@@ -1,4 +1,4 @@
--- The proofs of the statements in specs/, a file for each of the same name, and what they rest on: Decides, Records, TapeParts, Answers, Numbers, Spans.
+-- The proofs of the statements in specs/, a file for each of the same name (of a record looked up, Found), and what they rest on: Decides, Records, TapeParts, Answers, Numbers, Spans.
 pub mod Decides
 pub mod Examples
 pub mod Channels
@@ -7,6 +7,7 @@ pub mod Clocks
 pub mod Images
 pub mod Records
 pub mod Refusals
+pub mod Found
 pub mod Accepted
 pub mod TapeParts
 pub mod Answers

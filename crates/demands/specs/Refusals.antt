@@ -7,13 +7,15 @@ use mathlib.Core.List.{List, _++_}
 use mathlib.Core.Logic.{_⊎_, _↔_}
 use lib.ListN.{length, drop}
 use Rattle.events.specs.declared.Event.{Event}
+use Rattle.events.specs.declared.Refusal.the-variants.{TapeLength}
 use Rattle.device.specs.Events.{imageRule}
 use Rattle.image.specs.declared.Loaded.the-variants.{Accepted}
 use Rattle.image.specs.Image.{imageBytes, imageOf, deviceOf, unusedZero, loadOf}
 use Rattle.bits.specs.Bytes.{byte, number}
 use Rattle.record.specs.declared.Decoded.the-variants.{Valid}
 use Rattle.record.specs.Records.{recordBytes}
-use Rattle.tape.specs.Tapes.{tapeMost, records, decoded, eventsOf}
+use Rattle.tape.specs.declared.Found.the-variants.{Refused, PastEnd}
+use Rattle.tape.specs.Tapes.{tapeMost, records, decoded, eventsOf, recordAt}
 use Rattle.answer.specs.Answers.{answerBytes}
 use Rattle.tape.specs.Runs.{runOf, answersOf, resultOf, imageAfter, answersAfter}
 
@@ -151,3 +153,15 @@ pub record HasEvent (tape : List ℕ) (i : ℕ) : Type 0 where
 
 abbrev pub GoodRecordHasEvent : Type 0
 GoodRecordHasEvent = (tape : List ℕ) (i : ℕ) → GoodRecord tape i ↔ HasEvent tape i
+
+-- ---- a record looked up by its index
+abbrev pub WholeTape : List ℕ → Type 0
+WholeTape tape = (length tape % recordBytes ≡ 0) × (length tape ≤ tapeMost)
+
+-- 4 exactly if "tape length not a multiple of 8, or above 4,096"; proved in proofs/Found.antt
+abbrev pub FoundRefusesLength : Type 0
+FoundRefusesLength = (tape : List ℕ) (i : ℕ) → (recordAt tape i ≡ Refused TapeLength) ↔ (WholeTape tape → ⊥)
+
+-- past the end exactly if an accepted length has no such record
+abbrev pub FoundPastEnd : Type 0
+FoundPastEnd = (tape : List ℕ) (i : ℕ) → (recordAt tape i ≡ PastEnd) ↔ (WholeTape tape × (records tape ≤ i))

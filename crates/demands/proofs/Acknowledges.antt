@@ -25,7 +25,7 @@ use Rattle.device.specs.Events.{replied, stepOf}
 use Rattle.tape.specs.Tapes.{records}
 use Rattle.answer.specs.Answers.{answerOf}
 use Rattle.tape.specs.Runs.{resultOf}
-use Rattle.demands.specs.Refusals.{Means}
+use Rattle.demands.specs.Refusals.{RecordMeans}
 use Rattle.demands.specs.Tapes.{deviceBefore, answerTo, classAt, valueAt}
 use Rattle.demands.specs.Acknowledges.{Gave, GivesVector, NoVector, TapeGivesVector, TapeNoVector}
 use Rattle.bits.proofs.Bits.{halves}
@@ -132,7 +132,7 @@ class-two (Vector v) e = refl
 class-two PassedOn e = absurd (omega arith)
 class-two Held e = absurd (omega arith)
 
-module _ (image tape answers : List ℕ) (i : ℕ) (iei : Bool) (ok : resultOf image tape answers ≡ 0) (l : i < records tape) (p : Means tape i (Acknowledge iei)) where
+module _ (image tape answers : List ℕ) (i : ℕ) (iei : Bool) (ok : resultOf image tape answers ≡ 0) (l : i < records tape) (p : RecordMeans tape i (Acknowledge iei)) where
   abbrev here : Stepped
   here = stepOf (deviceBefore image tape i) (Acknowledge iei)
 

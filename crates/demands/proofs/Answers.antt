@@ -17,7 +17,7 @@ use Rattle.record.specs.Records.{recordBytes}
 use Rattle.tape.specs.Tapes.{decoded, records, events·at, events, eventsOf}
 use Rattle.answer.specs.Answers.{answerBytes, answerOf}
 use Rattle.tape.specs.Runs.{runOf, answersOf, resultOf, imageAfter, answersAfter}
-use Rattle.demands.specs.Refusals.{GoodBefore, Means, HasEvent}
+use Rattle.demands.specs.Refusals.{GoodBefore, RecordMeans, HasEvent}
 use Rattle.demands.specs.Tapes.{deviceBefore, answerTo}
 use Rattle.demands.proofs.Clocks.{run-parts, answer-parts}
 use Rattle.demands.proofs.Records.{good-record-has-event}
@@ -32,7 +32,7 @@ device-parts image tape j k =
     ∙ run-parts (deviceOf image) (events tape 0 j) (events tape (0 + j) k)
     ∙ ap (λ (x : ℕ). runOf (deviceBefore image tape j) (events tape x k)) (zero-add j)
 
-pub device-next : (image tape : List ℕ) (i : ℕ) (e : Event) → Means tape i e → deviceBefore image tape (i + 1) ≡ stepOf (deviceBefore image tape i) e .device
+pub device-next : (image tape : List ℕ) (i : ℕ) (e : Event) → RecordMeans tape i e → deviceBefore image tape (i + 1) ≡ stepOf (deviceBefore image tape i) e .device
 unfolding runOf events
 device-next image tape i e p = device-parts image tape i 1 ∙ ap (λ (d : Decoded). runOf (deviceBefore image tape i) (events·at d [])) p
 
@@ -55,7 +55,7 @@ module _ (image tape answers : List ℕ) (ok : resultOf image tape answers ≡ 0
   image-left = rw (eq-eqb _ _ ok) refl
 
   -- the answer to a record is that of its event at the device before it
-  module _ (i : ℕ) (h : i < records tape) (e : Event) (p : Means tape i e) where
+  module _ (i : ℕ) (h : i < records tape) (e : Event) (p : RecordMeans tape i e) where
     abbrev here : Stepped
     here = stepOf (deviceBefore image tape i) e
 

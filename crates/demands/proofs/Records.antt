@@ -24,7 +24,7 @@ use Rattle.record.specs.Records.{recordBytes, registers, registerOf, reading, w
 use Rattle.tape.specs.Tapes.{decoded}
 use Rattle.record.proofs.Verdicts.{Holds}
 use Rattle.demands.specs.Rule.{Bytes}
-use Rattle.demands.specs.Refusals.{RecordMarked, kindOf, operandA, operandN, OperandsInRange, of-reset, of-read, of-write, of-level, of-input, of-clocks, of-acknowledge, of-raise, SerialSelect, serial-read, serial-write, RecordInRange, RecordSerial, GoodRecord, Means, GoodRecordHasEvent}
+use Rattle.demands.specs.Refusals.{RecordMarked, kindOf, operandA, operandN, OperandsInRange, of-reset, of-read, of-write, of-level, of-input, of-clocks, of-acknowledge, of-raise, SerialSelect, serial-read, serial-write, RecordInRange, RecordSerial, GoodRecord, RecordMeans, GoodRecordHasEvent}
 use Rattle.demands.proofs.Decides.{Decides, equal-decided, most-decided, both-decided, not-held}
 
 -- ---- a register select
@@ -149,7 +149,7 @@ module _ {tape : List ℕ} {i : ℕ} where
 pub good-record-has-event : GoodRecordHasEvent
 good-record-has-event tape i = (λ g. let h = event-of (record-row tape i) g in record { event = h .event; means = h .is }, λ h. good-of (rw (h .means) at (record-row tape i)))
 
-pub meaning-is-good : (tape : List ℕ) (i : ℕ) (e : Event) → Means tape i e → GoodRecord tape i
+pub meaning-is-good : (tape : List ℕ) (i : ℕ) (e : Event) → RecordMeans tape i e → GoodRecord tape i
 meaning-is-good tape i e p = good-record-has-event tape i .1 (record { event = e; means = p })
 
 -- a record that means what a good one does is good

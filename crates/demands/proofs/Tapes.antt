@@ -11,7 +11,7 @@ use Rattle.bits.specs.Bytes.{byte}
 use Rattle.record.specs.declared.Decoded.the-variants.{Valid}
 use Rattle.record.specs.Records.{recordBytes, eventOf, meant}
 use Rattle.tape.specs.Tapes.{decoded, records}
-use Rattle.demands.specs.Refusals.{Means}
+use Rattle.demands.specs.Refusals.{RecordMeans}
 use Rattle.demands.specs.Tapes.{replaced, RecordOf, Spanned, Stays, Joins, Cuts, clockRecord, Recorded}
 use Rattle.demands.proofs.TapeParts.{within, past, replaced-long, replaced-before, replaced-by, replaced-after}
 use Rattle.demands.proofs.Numbers.{number-of-four}
@@ -21,7 +21,7 @@ pub stays : Stays
 stays image cut answers′ joined answers i m n s short ok ok′ = same-but image cut joined i m n s answers′ answers short ok ok′
 
 -- ---- two records joined
-joined-spans : (cut : List ℕ) (i m n : ℕ) (r : List ℕ) → i + 1 < records cut → Means cut i (Clocks m) → Means cut (i + 1) (Clocks n) → RecordOf (Clocks (m + n)) r → Spanned cut (replaced i (i + 2) r cut) i m n
+joined-spans : (cut : List ℕ) (i m n : ℕ) (r : List ℕ) → i + 1 < records cut → RecordMeans cut i (Clocks m) → RecordMeans cut (i + 1) (Clocks n) → RecordOf (Clocks (m + n)) r → Spanned cut (replaced i (i + 2) r cut) i m n
 joined-spans cut i m n r h p q w =
     let l : (i + 2) * recordBytes ≤ length cut = omega arith in
     let o : length r ≡ 1 * recordBytes = w .long in
@@ -43,7 +43,7 @@ joins image cut answers i m n r ok h p q short w =
     (ok′, stays image cut answers (replaced i (i + 2) r cut) answers i m n s short ok ok′)
 
 -- ---- one record cut in two
-cut-spans : (joined : List ℕ) (i m n : ℕ) (p q : List ℕ) → i < records joined → Means joined i (Clocks (m + n)) → RecordOf (Clocks m) p → RecordOf (Clocks n) q → Spanned (replaced i (i + 1) (p ++ q) joined) joined i m n
+cut-spans : (joined : List ℕ) (i m n : ℕ) (p q : List ℕ) → i < records joined → RecordMeans joined i (Clocks (m + n)) → RecordOf (Clocks m) p → RecordOf (Clocks n) q → Spanned (replaced i (i + 1) (p ++ q) joined) joined i m n
 cut-spans joined i m n p q h w v u =
     let l : (i + 1) * recordBytes ≤ length joined = omega arith in
     let o : length (p ++ q) ≡ 2 * recordBytes = omega (arith, length-append p q, v .long, u .long) in

@@ -12,7 +12,7 @@ use Rattle.events.specs.declared.Answer.the-variants.{Vector}
 use Rattle.device.specs.Events.{stepOf}
 use Rattle.tape.specs.Tapes.{records}
 use Rattle.tape.specs.Runs.{resultOf}
-use Rattle.demands.specs.Refusals.{Means}
+use Rattle.demands.specs.Refusals.{RecordMeans}
 use Rattle.demands.specs.Tapes.{deviceBefore, answerTo, classAt, valueAt}
 
 -- a device before and after an acknowledge that gave channel c's vector v
@@ -51,7 +51,7 @@ TapeGivesVector =
     (image tape answers : List ℕ) (i : ℕ) (iei : Bool)
     → resultOf image tape answers ≡ 0
     → i < records tape
-    → Means tape i (Acknowledge iei)
+    → RecordMeans tape i (Acknowledge iei)
     → classAt (answerTo image tape answers i) ≡ 2
     → let v : ℕ = valueAt (answerTo image tape answers i) in
     Gave (deviceBefore image tape i) (deviceBefore image tape (i + 1)) (v % 16) v
@@ -61,6 +61,6 @@ TapeNoVector =
     (image tape answers : List ℕ) (i : ℕ) (iei : Bool)
     → resultOf image tape answers ≡ 0
     → i < records tape
-    → Means tape i (Acknowledge iei)
+    → RecordMeans tape i (Acknowledge iei)
     → (classAt (answerTo image tape answers i) ≡ 2 → ⊥)
     → deviceBefore image tape (i + 1) ≡ deviceBefore image tape i

@@ -143,13 +143,13 @@ abbrev pub GoodImageLoads : Type 0
 GoodImageLoads = (image : List ℕ) → GoodImage image ↔ (loadOf image ≡ Accepted (deviceOf image))
 
 -- the record of index i means this event
-abbrev pub Means : List ℕ → ℕ → Event → Type 0
-Means tape i e = decoded tape (i * recordBytes) ≡ Valid e
+abbrev pub RecordMeans : List ℕ → ℕ → Event → Type 0
+RecordMeans tape i e = decoded tape (i * recordBytes) ≡ Valid e
 
 -- a good record is one that has an event
 pub record HasEvent (tape : List ℕ) (i : ℕ) : Type 0 where
   pub event : Event
-  pub means : Means tape i event
+  pub means : RecordMeans tape i event
 
 abbrev pub GoodRecordHasEvent : Type 0
 GoodRecordHasEvent = (tape : List ℕ) (i : ℕ) → GoodRecord tape i ↔ HasEvent tape i

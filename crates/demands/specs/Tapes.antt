@@ -13,7 +13,7 @@ use Rattle.record.specs.Records.{recordBytes, recordMark0, recordMark1}
 use Rattle.tape.specs.Tapes.{tapeMost, decoded, records, events}
 use Rattle.answer.specs.Answers.{answerBytes, headBytes, countBytes}
 use Rattle.tape.specs.Runs.{runOf, resultOf, imageAfter, answersAfter}
-use Rattle.demands.specs.Refusals.{Means}
+use Rattle.demands.specs.Refusals.{RecordMeans}
 
 -- "any n from 0 to 4,294,967,295"
 abbrev pub mostClocks : ℕ
@@ -31,7 +31,7 @@ replaced i k new tape = take (i * recordBytes) tape ++ new ++ drop (k * recordBy
 -- one record that means this event
 pub record RecordOf (e : Event) (r : List ℕ) : Type 0 where
   pub long : length r ≡ recordBytes
-  pub means : Means r 0 e
+  pub means : RecordMeans r 0 e
 
 -- ---- an answer buffer by its answers
 -- the answer of index i in a buffer
@@ -68,9 +68,9 @@ countAt k answer = numberAt answer (headBytes + countBytes * k)
 pub record Spanned (cut joined : List ℕ) (i m n : ℕ) : Type 0 where
   pub longer : length cut ≡ length joined + recordBytes
   pub within : i < records joined
-  pub first : Means cut i (Clocks m)
-  pub second : Means cut (i + 1) (Clocks n)
-  pub whole : Means joined i (Clocks (m + n))
+  pub first : RecordMeans cut i (Clocks m)
+  pub second : RecordMeans cut (i + 1) (Clocks n)
+  pub whole : RecordMeans joined i (Clocks (m + n))
   pub before : (j : ℕ) → j < i → decoded cut (j * recordBytes) ≡ decoded joined (j * recordBytes)
   pub after : (j : ℕ) → i < j → j < records joined → decoded cut ((j + 1) * recordBytes) ≡ decoded joined (j * recordBytes)
 
@@ -118,8 +118,8 @@ Joins =
     (image cut answers : List ℕ) (i m n : ℕ) (r : List ℕ)
     → resultOf image cut answers ≡ 0
     → i + 1 < records cut
-    → Means cut i (Clocks m)
-    → Means cut (i + 1) (Clocks n)
+    → RecordMeans cut i (Clocks m)
+    → RecordMeans cut (i + 1) (Clocks n)
     → m + n ≤ mostClocks
     → RecordOf (Clocks (m + n)) r
     → let joined : List ℕ = replaced i (i + 2) r cut in
@@ -131,7 +131,7 @@ Cuts =
     (image joined answers answers′ : List ℕ) (i m n : ℕ) (p q : List ℕ)
     → resultOf image joined answers ≡ 0
     → i < records joined
-    → Means joined i (Clocks (m + n))
+    → RecordMeans joined i (Clocks (m + n))
     → m + n ≤ mostClocks
     → RecordOf (Clocks m) p
     → RecordOf (Clocks n) q

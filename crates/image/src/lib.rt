@@ -75,7 +75,7 @@ fn interrupts_from(image: &[u8]) -> Interrupts
 // The timer whose data value stands at byte `at`, with this mode and output.
 fn timer_from(image: &[u8], at: usize, mode: u8, output: bool) -> Timer
     requires { ⌜ length (now image) ≡ imageBytes ⌝ }
-    requires { ⌜ at < 21 ⌝ }
+    requires { ⌜ at + 8 < imageBytes ⌝ }
     ensures { λ r. ⌜ r ≡ timerFrom (now (image .entry)) at mode output ⌝ }
 {
     Timer {

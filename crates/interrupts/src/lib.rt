@@ -333,13 +333,13 @@ impl Interrupts {
     fn give(self, c: Channel) -> Interrupts
         ensures { λ r. ⌜ r ≡ given c self ⌝ }
     {
-        let bit = set_of(c);
-        let pending = self.pending & 65535 - bit;
+        let set = set_of(c);
+        let pending = self.pending & 65535 - set;
         if software_end(self.vector) {
             return Interrupts {
                 enabled: self.enabled,
                 pending: pending,
-                service: self.service | bit,
+                service: self.service | set,
                 mask: self.mask,
                 vector: self.vector,
             };

@@ -208,24 +208,24 @@ fn run_records(d: Device, tape: &[u8], answers: &mut [u8], n: usize) -> Device
     requires { ⌜ firstBad (now tape) 0 n ≡ Checked.Fine ⌝ }
     ensures { λ r. ⌜ (r ≡ runOf d (events (now (tape .entry)) 0 n)) × (now (answers .exit) ≡ answersOf d (events (now (tape .entry)) 0 n) ++ drop (n * answerBytes) (now (answers .entry))) ⌝ }
 {
-    let mut at = d;
+    let mut current = d;
     let mut i = 0;
     while i < n {
         let e = event_at(tape, i * RECORD_BYTES);
-        let s = at.step(e);
+        let s = current.step(e);
         put_answer(s, answers, i * ANSWER_BYTES);
         let next = s.device;
         let l = next.lines;
         let q = next.interrupts;
         let t = next.timers;
-        at = Device {
+        current = Device {
             lines: l.written_out(),
             interrupts: q.written_out(),
             timers: t,
         };
         i += 1;
     }
-    at
+    current
 }
 
 // The whole call: checks everything, then runs the tape from the image's device, writes the answers

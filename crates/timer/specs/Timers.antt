@@ -29,6 +29,9 @@ runs active t = delay (t .mode) || pulseWidth (t .mode) && active
 unfoldable pub withPosition : ℕ → Timer → Timer
 withPosition p t = record { mode = t .mode; reload = t .reload; counter = t .counter; position = p; output = t .output }
 
+abbrev pub withReload : ℕ → Timer → Timer
+withReload v t = record { mode = t .mode; reload = v; counter = t .counter; position = t .position; output = t .output }
+
 abbrev pub withCounter : ℕ → Timer → Timer
 withCounter n t = record { mode = t .mode; reload = t .reload; counter = n; position = t .position; output = t .output }
 
@@ -84,7 +87,7 @@ controlled mode low t = record { mode = mode; reload = t .reload; counter = t .c
 
 -- Timer data: "A write stores the data value, and the counter too if the mode is 0."
 unfoldable pub reloadWritten : ℕ → Timer → Timer
-reloadWritten v t = record { mode = t .mode; reload = v; counter = cond (eqb (t .mode) 0) v (t .counter); position = t .position; output = t .output }
+reloadWritten v t = withCounter (cond (eqb (t .mode) 0) v (t .counter)) (withReload v t)
 
 -- "Reset clears [..] modes, positions and outputs; data values, counters [..] stay."
 abbrev pub resetTimer : Timer → Timer

@@ -56,7 +56,7 @@ put-answer-requires : tie.Need-put-answer-requires Inv-loop μ-loop
 put-answer-requires c κs =
     let a = c .before .before .before .before .before .before .before .args in
     let l = c .before .before .before .before .loop in
-    fits (a .d) (a .tape .now) (a .answers .now) (a .n) (l .answers) (l .at) (l .i) (l .inv) (c .before .before .before .loop-test .taken) (c .before .before .before .before .before .before .before .pre .1 .0)
+    fits (a .d) (a .tape .now) (a .answers .now) (a .n) (l .answers) (l .current) (l .i) (l .inv) (c .before .before .before .loop-test .taken) (c .before .before .before .before .before .before .before .pre .1 .0)
 
 add-i : tie.Need-add-i Inv-loop μ-loop
 add-i c = omega (arith, c .before .before .before .before .before .before .before .before .before .before .before .before .loop-test .taken, c .before .before .before .before .before .before .before .before .before .before .before .before .before .before .before .before .good)
@@ -70,7 +70,7 @@ loop-again c =
     let l = c .before .before .before .before .before .before .before .before .before .before .before .before .before .loop in
     let h = c .before .before .before .before .before .before .before .before .before .before .before .before .loop-test .taken in
     let s = c .before .before .before .before .before .before .before .before .before .before .step .result in
-    turned (a .d) (a .tape .now) (a .answers .now) (a .n) (l .answers) (l .at) (l .i) (l .inv) h _ (c .before .before .before .before .before .before .before .before .before .before .before .event-at .ensures) (fits (a .d) (a .tape .now) (a .answers .now) (a .n) (l .answers) (l .at) (l .i) (l .inv) h (c .before .before .before .before .before .before .before .before .before .before .before .before .before .before .before .before .pre .1 .0)) s _ (c .before .before .before .before .before .before .before .before .before .before .step .ensures) (c .before .before .before .before .before .before .before .before .put-answer .ensures) _ (λ k. record { lines = c .before .written-out .ensures k; interrupts = c .written-out2 .ensures k; timers = s .device .timers })
+    turned (a .d) (a .tape .now) (a .answers .now) (a .n) (l .answers) (l .current) (l .i) (l .inv) h _ (c .before .before .before .before .before .before .before .before .before .before .before .event-at .ensures) (fits (a .d) (a .tape .now) (a .answers .now) (a .n) (l .answers) (l .current) (l .i) (l .inv) h (c .before .before .before .before .before .before .before .before .before .before .before .before .before .before .before .before .pre .1 .0)) s _ (c .before .before .before .before .before .before .before .before .before .before .step .ensures) (c .before .before .before .before .before .before .before .before .put-answer .ensures) _ (λ k. record { lines = c .before .written-out .ensures k; interrupts = c .written-out2 .ensures k; timers = s .device .timers })
 
 same-length : tie.Need-same-length Inv-loop μ-loop
 same-length c = c .before .loop .inv .long
@@ -79,7 +79,7 @@ returns : tie.Need-returns Inv-loop μ-loop
 returns c =
     let a = c .before .before .before .before .args in
     let l = c .before .loop in
-    going-ends (a .d) (a .tape .now) (a .answers .now) (a .n) (l .answers) (l .at) (l .i) (l .inv) (c .loop-test .left)
+    going-ends (a .d) (a .tape .now) (a .answers .now) (a .n) (l .answers) (l .current) (l .i) (l .inv) (c .loop-test .left)
 
 pub run-records-spec : {M : Type 1} → statement M
 run-records-spec =

@@ -1,5 +1,6 @@
-//! The documents name only what there is, and leave out no public function and no must-fail edit. No public
-//! function is left out of the law that it promises one outcome.
+//! The documents name only what there is, count the lines of the definition files right, and leave out no
+//! public function and no must-fail edit. No public function is left out of the law that it promises one
+//! outcome.
 #![deny(warnings)]
 
 use std::fs;
@@ -180,6 +181,32 @@ fn public_functions_are_listed() {
         }
     }
     assert!(seen > 80, "{seen}");
+}
+
+/// API.md has no row of a function that is not there, and TRUST.md the lines of each definition file.
+#[test]
+fn rows_are_true() {
+    let mut seen = 0;
+    for section in read("docs/API.md").split("\n## ") {
+        let (library, rows) = section.split_once('\n').unwrap();
+        for row in rows.lines().filter_map(|row| row.strip_prefix("| `")) {
+            let path = row.split('(').next().unwrap();
+            let here = |library: &String| public_functions(library).iter().any(|f| f.0 == path);
+            let crates = libraries();
+            let mut listed = crates.iter().filter(|name| *name == library);
+            assert!(listed.all(here), "docs/API.md: {library}: {path}");
+        }
+    }
+    for row in read("docs/TRUST.md").lines() {
+        if let [_, file, lines, _] = row.split(" | ").collect::<Vec<_>>()[..] {
+            if file.starts_with("`crates/") {
+                let counted = read(file.trim_matches('`')).lines().count();
+                assert_eq!(lines, counted.to_string(), "docs/TRUST.md: {file}");
+                seen += 1;
+            }
+        }
+    }
+    assert!(seen > 30, "{seen}");
 }
 
 /// Of each result and each buffer lent to be written. The contracts of clients are demands, and no plain

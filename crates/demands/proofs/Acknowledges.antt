@@ -1,18 +1,19 @@
 -- An acknowledge of a whole device and on tapes, from the interrupt controller's laws. Assumes nothing.
 use Prim.Native.Nat.{ℕ, zero, suc, _+_, _%_, _^_, _<_}
 use mathlib.Core.Path.{_≡_, refl, sym, ap, subst, _∙_}
-use mathlib.Core.Bool.{Bool, true, false, cond, not, _&&_, _||_, and-true, and-false, or-true, or-false}
+use mathlib.Core.Bool.{Bool, true, false, cond, not, _&&_, _||_, and-true, and-false, or-true, or-false, false≢true}
 use mathlib.Core.List.{List}
 use native.Mathlib.Omega.{arith}
 use lib.Dec.{eqb, ltb}
 use borrow.Author.Tests.{eq-eqb, ne-eqb}
 use Rattle.interrupts.specs.declared.Channel.{Channel}
 use Rattle.interrupts.specs.declared.Interrupts.{Interrupts}
+use Rattle.interrupts.specs.declared.Acknowledged.{Acknowledged}
 use Rattle.interrupts.specs.declared.Requesting.{Requesting}
 use Rattle.interrupts.specs.declared.Requesting.the-variants.{By, Nobody}
 use Rattle.interrupts.specs.Channels.{has, channel}
 use Rattle.interrupts.specs.Interrupts.{S, requests, highestBelow, highest, given, vectorOf, acknowledgedBy, acknowledged}
-use Rattle.interrupts.proofs.Requests.{requesting-below, vectored}
+use Rattle.interrupts.proofs.Requests.{found, irq-found, requesting-below, vectored}
 use Rattle.interrupts.proofs.Neighbours.{acknowledge-clears-one, acknowledge-serves-one}
 use Rattle.device.specs.declared.Device.{Device}
 use Rattle.events.specs.declared.Event.the-variants.{Acknowledge}
@@ -21,13 +22,13 @@ use Rattle.events.specs.declared.Answer.the-variants.{Done, Data, Vector, Passe
 use Rattle.device.specs.declared.Stepped.{Stepped}
 use Rattle.device.specs.Registers.{withInterrupts}
 use Rattle.events.specs.Numbers.{classOf, valueOf}
-use Rattle.device.specs.Events.{replied, stepOf}
+use Rattle.device.specs.Events.{replied, irqOf, stepOf}
 use Rattle.tape.specs.Tapes.{records}
 use Rattle.answer.specs.Answers.{answerOf}
 use Rattle.tape.specs.Runs.{resultOf}
 use Rattle.demands.specs.Refusals.{RecordMeans}
 use Rattle.demands.specs.Tapes.{deviceBefore, answerTo, classAt, valueAt}
-use Rattle.demands.specs.Acknowledges.{Gave, GivesVector, NoVector, TapeGivesVector, TapeNoVector}
+use Rattle.demands.specs.Acknowledges.{Gave, GivesVector, Served, RequestIsServed, NoVector, TapeGivesVector, TapeNoVector}
 use Rattle.bits.proofs.Bits.{halves}
 use Rattle.demands.proofs.Channels.{below-has-none, unserved}
 use Rattle.demands.proofs.TapeParts.{Place, is-before, is-here, is-after, place}
@@ -113,6 +114,14 @@ gives-vector d true v e = go (highest (d .interrupts)) refl e
         let m : c .0 ≡ vectorOf c (d .interrupts) % 16 = omega arith in
         subst (λ (n : ℕ). Gave d (stepOf d (Acknowledge true) .device) (n % 16) n) w (subst (λ (n : ℕ). Gave d (stepOf d (Acknowledge true) .device) n (vectorOf c (d .interrupts))) m (gave d c h))
     go Nobody h p = let z : _≡_ {A = ℕ} 0 1 = cc in absurd (omega arith)
+
+pub request-is-served : RequestIsServed
+unfolding stepOf
+request-is-served d q = go (highest (d .interrupts)) refl (irq-found (d .interrupts) ∙ q)
+  where
+    go : (r : Requesting) → highest (d .interrupts) ≡ r → found r ≡ true → Served d
+    go (By c) e f = record { value = vectorOf c (d .interrupts); answers = ap (λ (a : Acknowledged). replied (a .reply)) (vectored true (d .interrupts) c refl e) }
+    go Nobody e f = absurd (false≢true f)
 
 pub no-vector : NoVector
 unfolding stepOf acknowledged

@@ -9,6 +9,7 @@ pub mod Records
 pub mod Refusals
 pub mod Found
 pub mod Accepted
+pub mod Raised
 pub mod TapeParts
 pub mod Answers
 pub mod Numbers

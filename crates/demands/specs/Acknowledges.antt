@@ -9,7 +9,7 @@ use Rattle.interrupts.specs.Interrupts as I
 use Rattle.device.specs.declared.Device.{Device}
 use Rattle.events.specs.declared.Event.the-variants.{Acknowledge}
 use Rattle.events.specs.declared.Answer.the-variants.{Vector}
-use Rattle.device.specs.Events.{stepOf}
+use Rattle.device.specs.Events.{irqOf, stepOf}
 use Rattle.tape.specs.Tapes.{records}
 use Rattle.tape.specs.Runs.{resultOf}
 use Rattle.demands.specs.Refusals.{RecordMeans}
@@ -40,6 +40,14 @@ pub record Gave (before after : Device) (c v : ℕ) : Type 0 where
 -- the channel is the vector's low half
 abbrev pub GivesVector : Type 0
 GivesVector = (d : Device) (iei : Bool) (v : ℕ) → stepOf d (Acknowledge iei) .answer ≡ Vector v → Gave d (stepOf d (Acknowledge iei) .device) (v % 16) v
+
+-- as long as the device asserts IRQ, an acknowledge with IEI asserted gives a vector: no request is passed on or lost
+pub record Served (d : Device) : Type 0 where
+  pub value : ℕ
+  pub answers : stepOf d (Acknowledge true) .answer ≡ Vector value
+
+abbrev pub RequestIsServed : Type 0
+RequestIsServed = (d : Device) → irqOf d ≡ true → Served d
 
 -- "where the acknowledge yields no vector, nothing changes"
 abbrev pub NoVector : Type 0

@@ -9,3 +9,4 @@ pub mod Tapes
 pub mod Acknowledges
 pub mod Parts
 pub mod Accepted
+pub mod Raised

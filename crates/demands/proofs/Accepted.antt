@@ -7,7 +7,7 @@ use native.Mathlib.Omega.{arith}
 use lib.Dec.{lit≤}
 use borrow.Author.Tests.{eq-eqb}
 use Rattle.timer.specs.Timers.{positionRule}
-use Rattle.interrupts.specs.Channels.{has}
+use Rattle.channels.specs.Channels.{has}
 use Rattle.interrupts.specs.Interrupts.{S, interruptRule}
 use Rattle.timers.specs.Registers.{timerRule, timersRule}
 use Rattle.device.specs.Events.{freshDevice, stepOf, imageRule}

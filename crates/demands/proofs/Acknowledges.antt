@@ -6,15 +6,16 @@ use mathlib.Core.List.{List}
 use native.Mathlib.Omega.{arith}
 use lib.Dec.{eqb, ltb}
 use borrow.Author.Tests.{eq-eqb, ne-eqb}
-use Rattle.interrupts.specs.declared.Channel.{Channel}
+use Rattle.channels.specs.declared.Channel.{Channel}
 use Rattle.interrupts.specs.declared.Interrupts.{Interrupts}
-use Rattle.interrupts.specs.declared.Acknowledged.{Acknowledged}
-use Rattle.interrupts.specs.declared.Requesting.{Requesting}
-use Rattle.interrupts.specs.declared.Requesting.the-variants.{By, Nobody}
-use Rattle.interrupts.specs.Channels.{has, channel}
-use Rattle.interrupts.specs.Interrupts.{S, requests, highestBelow, highest, given, vectorOf, acknowledgedBy, acknowledged}
-use Rattle.interrupts.proofs.Requests.{found, irq-found, requesting-below, vectored}
-use Rattle.interrupts.proofs.Neighbours.{acknowledge-clears-one, acknowledge-serves-one}
+use Rattle.requests.specs.declared.Acknowledged.{Acknowledged}
+use Rattle.requests.specs.declared.Requesting.{Requesting}
+use Rattle.requests.specs.declared.Requesting.the-variants.{By, Nobody}
+use Rattle.channels.specs.Channels.{has, channel}
+use Rattle.interrupts.specs.Interrupts.{S}
+use Rattle.requests.specs.Requests.{requests, highestBelow, highest, given, vectorOf, acknowledgedBy, acknowledged}
+use Rattle.requests.proofs.Requests.{found, irq-found, requesting-below, vectored}
+use Rattle.requests.proofs.Neighbours.{acknowledge-clears-one, acknowledge-serves-one}
 use Rattle.device.specs.declared.Device.{Device}
 use Rattle.events.specs.declared.Event.the-variants.{Acknowledge}
 use Rattle.events.specs.declared.Answer.{Answer}

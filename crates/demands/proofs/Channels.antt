@@ -7,13 +7,14 @@ use native.Mathlib.Omega.{arith}
 use lib.Dec.{eqb, ltb}
 use lib.Pow.{pow-pos, pow-mono, field, mod-mod-pow}
 use borrow.Author.Tests.{lt-ltb, ltb-true, ltb-false}
-use Rattle.interrupts.specs.declared.Channel.{Channel}
+use Rattle.channels.specs.declared.Channel.{Channel}
 use Rattle.interrupts.specs.declared.Interrupts.{Interrupts}
-use Rattle.interrupts.specs.declared.Requesting.{Requesting}
-use Rattle.interrupts.specs.declared.Requesting.the-variants.{By, Nobody}
-use Rattle.interrupts.specs.Channels.{has}
-use Rattle.interrupts.specs.Interrupts.{S, given, highest, acknowledgedBy, acknowledged}
-use Rattle.interrupts.proofs.Sets.{same-set}
+use Rattle.requests.specs.declared.Requesting.{Requesting}
+use Rattle.requests.specs.declared.Requesting.the-variants.{By, Nobody}
+use Rattle.channels.specs.Channels.{has}
+use Rattle.interrupts.specs.Interrupts.{S}
+use Rattle.requests.specs.Requests.{given, highest, acknowledgedBy, acknowledged}
+use Rattle.channels.proofs.Sets.{same-set}
 use Rattle.demands.specs.Channels.{BelowHasNone, NoneIsBelow, Unserved}
 
 -- ---- a set and a power of 2

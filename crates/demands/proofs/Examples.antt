@@ -13,13 +13,14 @@ use Rattle.timer.specs.Countdown.{unit, left, ranOut, span, toGo, toggled, puls
 use Rattle.timer.proofs.Countdowns.{left-either, times-either}
 use Rattle.timer.proofs.Pulses.{span-pos}
 use Rattle.timer.proofs.Clocks.{atOnce, clocks-at-once, timeouts-at-once}
-use Rattle.interrupts.specs.declared.Half.{Half}
-use Rattle.interrupts.specs.declared.Half.the-variants.{A, B}
-use Rattle.interrupts.specs.Channels.{has, setOf, channelOf, half, withHalf}
-use Rattle.interrupts.specs.Raises.{raisedBy}
-use Rattle.interrupts.specs.Interrupts.{kept, interruptRead, interruptWritten, raised, requests, someRequests, irq, highestBelow, highest, vectorOf, acknowledged}
-use Rattle.interrupts.proofs.Sets.{has-and}
-use Rattle.interrupts.proofs.Tables.{everywhere, same}
+use Rattle.channels.specs.declared.Half.{Half}
+use Rattle.channels.specs.declared.Half.the-variants.{A, B}
+use Rattle.channels.specs.Channels.{has, setOf, channelOf, half, withHalf}
+use Rattle.channels.specs.Raises.{raisedBy}
+use Rattle.interrupts.specs.Interrupts.{kept, interruptRead, interruptWritten, raised}
+use Rattle.requests.specs.Requests.{requests, someRequests, irq, highestBelow, highest, vectorOf, acknowledged}
+use Rattle.channels.proofs.Sets.{has-and}
+use Rattle.channels.proofs.Tables.{everywhere, same}
 use Rattle.timers.specs.Registers.{timerRead, timerWritten}
 use Rattle.device.specs.declared.Device.{Device}
 use Rattle.events.specs.declared.Answer.the-variants.{Data}

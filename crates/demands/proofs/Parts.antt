@@ -12,16 +12,17 @@ use Rattle.timer.specs.declared.Timer.{Timer}
 use Rattle.timer.specs.Timers.{eventCount, runs, withPosition, pulsed, atDivisor, clocked, clocks, controlled, reloadWritten}
 use Rattle.timer.proofs.Pulses.{pulsed-mode, pulsed-reload, pulsed-position}
 use Rattle.timer.proofs.Rule.{clocks-mode}
-use Rattle.interrupts.specs.declared.Half.{Half}
-use Rattle.interrupts.specs.declared.Half.the-variants.{A as HighHalf, B as LowHalf}
+use Rattle.channels.specs.declared.Half.{Half}
+use Rattle.channels.specs.declared.Half.the-variants.{A as HighHalf, B as LowHalf}
 use Rattle.interrupts.specs.declared.Interrupts.{Interrupts}
 use Rattle.interrupts.specs.declared.InterruptRegister.{InterruptRegister}
 use Rattle.interrupts.specs.declared.InterruptRegister.the-variants.{Ier, Ipr, Isr, Imr, Vr}
-use Rattle.interrupts.specs.declared.Requesting.{Requesting}
-use Rattle.interrupts.specs.declared.Requesting.the-variants.{By, Nobody}
-use Rattle.interrupts.specs.Channels.{half, withHalf}
-use Rattle.interrupts.specs.Raises.{raises, raisedBy}
-use Rattle.interrupts.specs.Interrupts.{clearInterrupts, kept, raised, vectorWritten, interruptWritten, highest, given, acknowledgedBy, acknowledged}
+use Rattle.requests.specs.declared.Requesting.{Requesting}
+use Rattle.requests.specs.declared.Requesting.the-variants.{By, Nobody}
+use Rattle.channels.specs.Channels.{half, withHalf}
+use Rattle.channels.specs.Raises.{raises, raisedBy}
+use Rattle.interrupts.specs.Interrupts.{clearInterrupts, kept, raised, vectorWritten, interruptWritten}
+use Rattle.requests.specs.Requests.{highest, given, acknowledgedBy, acknowledged}
 use Rattle.timers.specs.declared.Timers.{Timers}
 use Rattle.timers.specs.declared.TimerRegister.the-variants.{Tacr, Tbcr, Tcdcr, Tadr, Tbdr, Tcdr, Tddr}
 use Rattle.timers.specs.Clocks.{timeoutRaises}

@@ -2,7 +2,7 @@
 use mathlib.Core.Path.{_≡_, refl, sym, ap}
 use mathlib.Core.List.{[]}
 use Rattle.interrupts.specs.declared.Interrupts.{Interrupts}
-use Rattle.interrupts.specs.Raises.{raisedBy}
+use Rattle.channels.specs.Raises.{raisedBy}
 use Rattle.interrupts.specs.Interrupts.{raised}
 use Rattle.interrupts.proofs.Raises.{raise-none}
 use Rattle.lines.specs.declared.LineRegister.the-variants.{Gpdr, Aer, Ddr}

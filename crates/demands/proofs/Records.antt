@@ -7,8 +7,8 @@ use native.Mathlib.Omega.{arith}
 use lib.Dec.{T, eqb, leb, lit≤}
 use lib.ListN.{List·getD-eq-default}
 use borrow.Author.Tests.{eqb-true, leb-true, leb-false, le-leb}
-use Rattle.interrupts.specs.Channels.{line, channel}
-use Rattle.interrupts.proofs.Tables.{everywhere}
+use Rattle.channels.specs.Channels.{line, channel}
+use Rattle.channels.proofs.Tables.{everywhere}
 use Rattle.events.specs.declared.Register.{Register}
 use Rattle.events.specs.declared.Event.{Event}
 use Rattle.events.specs.declared.Event.the-variants.{Reset, Read, Write, Level, Input, Clocks, Acknowledge, Raise}

@@ -4,7 +4,8 @@ use mathlib.Core.Path.{_≡_}
 use mathlib.Core.Bool.{true}
 use Rattle.bits.proofs.Bits.{halves, joined}
 use Rattle.interrupts.specs.declared.Interrupts.{Interrupts}
-use Rattle.interrupts.proofs.Rule.{Ruled, ruled, rule-kept, raise-ruled, written-ruled, acknowledged-ruled, clear-ruled}
+use Rattle.interrupts.proofs.Rule.{Ruled, ruled, rule-kept, raise-ruled, written-ruled, clear-ruled}
+use Rattle.requests.proofs.Rule.{acknowledged-ruled}
 use Rattle.timers.specs.declared.Timers.{Timers}
 use Rattle.timers.proofs.Rule.{AllSettled, all-settled, timers-ruled, pulses-settle, clocks-settle, reset-settles, written-settles}
 use Rattle.lines.specs.declared.Lines.{Lines}

@@ -4,7 +4,7 @@ use Prim.Native.Nat.{ℕ, _+_, _*_, _/_, _%_, _<_}
 use mathlib.Core.Path.{_≡_}
 use mathlib.Core.Bool.{Bool, true, false}
 use mathlib.Core.List.{List}
-use Rattle.interrupts.specs.Channels.{has}
+use Rattle.channels.specs.Channels.{has}
 use Rattle.interrupts.specs.Interrupts as I
 use Rattle.device.specs.declared.Device.{Device}
 use Rattle.events.specs.declared.Event.the-variants.{Acknowledge}

@@ -4,8 +4,9 @@ use mathlib.Core.Path.{_≡_}
 use mathlib.Core.Bool.{Bool, true, false}
 use lib.Dec.{ltb}
 use Rattle.interrupts.specs.declared.Interrupts.{Interrupts}
-use Rattle.interrupts.specs.Channels.{has}
-use Rattle.interrupts.specs.Interrupts.{S, acknowledged}
+use Rattle.channels.specs.Channels.{has}
+use Rattle.interrupts.specs.Interrupts.{S}
+use Rattle.requests.specs.Requests.{acknowledged}
 
 -- a set below 2 ^ c has no channel equal to or above c, and the other way round
 abbrev pub BelowHasNone : Type 0

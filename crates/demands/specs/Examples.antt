@@ -5,11 +5,11 @@ use mathlib.Core.Path.{_≡_}
 use mathlib.Core.Bool.{Bool, true, false}
 use Rattle.timer.specs.declared.Timer.{Timer}
 use Rattle.timer.specs.Timers.{delay, divisor, clocks, timeouts, freshTimer}
-use Rattle.interrupts.specs.declared.Half.{Half}
-use Rattle.interrupts.specs.declared.Half.the-variants.{A, B}
+use Rattle.channels.specs.declared.Half.{Half}
+use Rattle.channels.specs.declared.Half.the-variants.{A, B}
 use Rattle.interrupts.specs.declared.Interrupts.{Interrupts}
-use Rattle.interrupts.specs.Channels.{has}
-use Rattle.interrupts.specs.Interrupts.{requests}
+use Rattle.channels.specs.Channels.{has}
+use Rattle.requests.specs.Requests.{requests}
 use Rattle.lines.specs.declared.Lines.{Lines}
 use Rattle.device.specs.declared.Device.{Device}
 use Rattle.interrupts.specs.declared.InterruptRegister.the-variants.{Ier, Ipr, Imr}

@@ -6,10 +6,10 @@ use mathlib.Core.List.{List, [], _∷_}
 use lib.Dec.{eqb}
 use Rattle.bits.specs.Bits.{bitValue}
 use Rattle.timer.specs.declared.Timer.{Timer}
-use Rattle.interrupts.specs.declared.Half.{Half}
-use Rattle.interrupts.specs.declared.Half.the-variants.{A as HighHalf, B as LowHalf}
+use Rattle.channels.specs.declared.Half.{Half}
+use Rattle.channels.specs.declared.Half.the-variants.{A as HighHalf, B as LowHalf}
 use Rattle.interrupts.specs.declared.InterruptRegister.the-variants.{Ier, Ipr, Isr, Imr, Vr}
-use Rattle.interrupts.specs.Channels.{half}
+use Rattle.channels.specs.Channels.{half}
 use Rattle.timers.specs.declared.Timers.{Timers}
 use Rattle.timers.specs.declared.TimerRegister.the-variants.{Tacr, Tbcr, Tcdcr, Tadr, Tbdr, Tcdr, Tddr}
 use Rattle.lines.specs.declared.LineRegister.the-variants.{Gpdr, Aer, Ddr}

@@ -1,7 +1,7 @@
 -- One set of raises per event: which channels it raises, and how often. But for a reset, an acknowledge and a write of an interrupt register, which have rules of their own, nothing else of the interrupts changes. Proved in proofs/Raised.antt.
 use mathlib.Core.Path.{_≡_}
 use mathlib.Core.List.{List, [], _∷_}
-use Rattle.interrupts.specs.Raises.{Raises, raises, raisedBy}
+use Rattle.channels.specs.Raises.{Raises, raises, raisedBy}
 use Rattle.interrupts.specs.Interrupts.{raised}
 use Rattle.timers.specs.Clocks.{timeoutRaises}
 use Rattle.lines.specs.declared.LineRegister.the-variants.{Gpdr, Aer, Ddr}

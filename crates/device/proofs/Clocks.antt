@@ -3,7 +3,7 @@
 use Prim.Native.Nat.{ℕ, zero, suc}
 use mathlib.Core.Path.{_≡_, refl, sym, ap, _∙_}
 use Rattle.timer.specs.Timers.{clocks, timeouts}
-use Rattle.interrupts.specs.Raises.{raisedBy}
+use Rattle.channels.specs.Raises.{raisedBy}
 use Rattle.interrupts.specs.Interrupts.{raised}
 use Rattle.interrupts.proofs.Raises.{raise-raise, raise-none}
 use Rattle.timers.specs.declared.Timers.{Timers}

@@ -1,6 +1,6 @@
 -- Document 01, "Timers": one clock of the device, and n clocks as n single clocks.
 use Prim.Native.Nat.{ℕ, zero, suc}
-use Rattle.interrupts.specs.Raises.{raisedBy}
+use Rattle.channels.specs.Raises.{raisedBy}
 use Rattle.interrupts.specs.Interrupts.{raised}
 use Rattle.timers.specs.declared.Timers.{Timers}
 use Rattle.timers.specs.declared.Timeouts.{Timeouts}

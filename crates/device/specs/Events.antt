@@ -2,10 +2,11 @@
 use Prim.Native.Nat.{ℕ}
 use mathlib.Core.Bool.{Bool, cond, _&&_}
 use mathlib.Core.List.{[], _∷_}
-use Rattle.interrupts.specs.declared.Reply.{Reply}
-use Rattle.interrupts.specs.declared.Reply.the-variants.{Vector as GivenVector, PassedOn as GivenOn, Held as GivenHeld}
-use Rattle.interrupts.specs.Raises.{raises, raisedBy}
-use Rattle.interrupts.specs.Interrupts.{clearInterrupts, raised, irq, acknowledged, interruptRule}
+use Rattle.requests.specs.declared.Reply.{Reply}
+use Rattle.requests.specs.declared.Reply.the-variants.{Vector as GivenVector, PassedOn as GivenOn, Held as GivenHeld}
+use Rattle.channels.specs.Raises.{raises, raisedBy}
+use Rattle.interrupts.specs.Interrupts.{clearInterrupts, raised, interruptRule}
+use Rattle.requests.specs.Requests.{irq, acknowledged}
 use Rattle.timers.specs.Clocks.{none}
 use Rattle.timers.specs.Registers.{resetTimers, freshTimers, outputsOf, timersRule}
 use Rattle.lines.specs.Registers.{withLevel, withInput, resetLines, freshLines}

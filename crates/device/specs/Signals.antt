@@ -3,7 +3,7 @@ use mathlib.Core.Bool.{Bool, _&&_}
 use mathlib.Core.List.{List, _++_}
 use Rattle.timer.specs.declared.Timer.{Timer}
 use Rattle.timer.specs.Timers.{eventCount, pulseWidth}
-use Rattle.interrupts.specs.Raises.{Raises, raisedBy}
+use Rattle.channels.specs.Raises.{Raises, raisedBy}
 use Rattle.interrupts.specs.Interrupts.{raised}
 use Rattle.timers.specs.declared.Timers.{Timers}
 use Rattle.timers.specs.declared.Timeouts.{Timeouts}

@@ -7,10 +7,10 @@ use events::Event;
 use events::Refusal;
 use events::Register;
 use interrupts::Interrupts;
-use interrupts::Reply;
 use lines::LineRegister;
 use lines::Lines;
 use lines::TimerInput;
+use requests::Reply;
 use timers::Timeouts;
 use timers::Timers;
 ghost use mathlib.Core.Path.{_≡_};
@@ -113,7 +113,7 @@ impl Device {
         ensures { λ r. ⌜ r ≡ irqOf self ⌝ }
     {
         let i = self.interrupts;
-        i.irq()
+        requests::irq(i)
     }
 
     // The outputs as an answer shows them, bit 0 A to bit 3 D.
@@ -249,7 +249,7 @@ impl Device {
         ensures { λ b. ⌜ finished b self ≡ stepOf self (Acknowledge iei) ⌝ }
     {
         let i = self.interrupts;
-        let k = i.acknowledge(iei);
+        let k = requests::acknowledge(i, iei);
         let reply = k.reply;
         let after = k.interrupts;
         let mut d = self;
@@ -273,7 +273,7 @@ impl Device {
             Event::Acknowledge(iei) => self.begin_acknowledge(iei),
             Event::Raise(c) => {
                 let mut d = self;
-                d.interrupts = i.raise(interrupts::set_of(c));
+                d.interrupts = i.raise(channels::set_of(c));
                 done_with(d)
             }
         }

@@ -1,8 +1,8 @@
 // Events, answers and refusals by value: the types that the device and the tape share, and this
 // paper's numbers for them. The rules stand in specs/. Every function is total.
-use interrupts::Channel;
+use channels::Channel;
+use channels::Line;
 use interrupts::InterruptRegister;
-use interrupts::Line;
 use lines::LineRegister;
 use lines::TimerInput;
 use timers::TimerRegister;

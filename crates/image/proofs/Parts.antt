@@ -13,8 +13,8 @@ use Rattle.bits.specs.Bits.{bitValue}
 use Rattle.bits.specs.Bytes.{byte}
 use Rattle.bits.proofs.Bits.{halves}
 use Rattle.timer.specs.declared.Timer.{Timer}
-use Rattle.interrupts.specs.Channels.{has, half}
-use Rattle.interrupts.proofs.Tables.{everywhere, same}
+use Rattle.channels.specs.Channels.{has, half}
+use Rattle.channels.proofs.Tables.{everywhere, same}
 use Rattle.timers.specs.Registers.{tcdcrOf, outputsOf}
 use Rattle.timers.proofs.Rule.{AllSettled}
 use Rattle.device.specs.declared.Device.{Device}

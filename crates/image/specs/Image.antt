@@ -7,9 +7,9 @@ use lib.ListN.{length}
 use Rattle.bits.specs.Bits.{bitValue}
 use Rattle.bits.specs.Bytes.{byte}
 use Rattle.timer.specs.declared.Timer.{Timer}
-use Rattle.interrupts.specs.declared.Half.the-variants.{A, B}
+use Rattle.channels.specs.declared.Half.the-variants.{A, B}
 use Rattle.interrupts.specs.declared.Interrupts.{Interrupts}
-use Rattle.interrupts.specs.Channels.{has, half}
+use Rattle.channels.specs.Channels.{has, half}
 use Rattle.timers.specs.declared.Timers.{Timers}
 use Rattle.timers.specs.Registers.{modeC, modeD, tcdcrOf, outputsOf}
 use Rattle.lines.specs.declared.Lines.{Lines}

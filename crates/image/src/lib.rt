@@ -1,8 +1,8 @@
 // The 32-byte image of a device: load, save, store. The layout stands in specs/Image.antt. No
 // function has a `requires` but the private readers, which want a whole image.
+use channels::Half;
 use device::Device;
 use events::Refusal;
-use interrupts::Half;
 use interrupts::Interrupts;
 use lines::Lines;
 use timer::Timer;
@@ -10,7 +10,7 @@ use timers::Timers;
 ghost use mathlib.Core.Path.{_≡_};
 ghost use Prim.Native.Nat.{_+_, _*_, _<_};
 ghost use lib.ListN.{length};
-ghost use Rattle.interrupts.specs.Channels.{has};
+ghost use Rattle.channels.specs.Channels.{has};
 ghost use Rattle.bits.specs.Bits.{bitValue};
 ghost use Rattle.image.specs.Image.{imageBytes, imageOf, linesFrom, interruptsFrom, timersFrom, timerFrom, unusedZero, loadOf, storedOver, savedOf, savedOver};
 
@@ -158,14 +158,14 @@ fn bytes_of(d: Device) -> [u8; IMAGE_BYTES]
         l.gpdr,
         l.aer,
         l.ddr,
-        interrupts::half_of(Half::A, i.enabled),
-        interrupts::half_of(Half::B, i.enabled),
-        interrupts::half_of(Half::A, i.pending),
-        interrupts::half_of(Half::B, i.pending),
-        interrupts::half_of(Half::A, i.service),
-        interrupts::half_of(Half::B, i.service),
-        interrupts::half_of(Half::A, i.mask),
-        interrupts::half_of(Half::B, i.mask),
+        channels::half_of(Half::A, i.enabled),
+        channels::half_of(Half::B, i.enabled),
+        channels::half_of(Half::A, i.pending),
+        channels::half_of(Half::B, i.pending),
+        channels::half_of(Half::A, i.service),
+        channels::half_of(Half::B, i.service),
+        channels::half_of(Half::A, i.mask),
+        channels::half_of(Half::B, i.mask),
         i.vector,
         t.a.mode,
         t.b.mode,

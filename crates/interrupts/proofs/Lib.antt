@@ -1,8 +1,3 @@
--- The laws of sets of channels and of the interrupt controller that callers use.
-pub mod Tables
-pub mod Sets
-pub mod Requests
-pub mod Asserted
-pub mod Neighbours
+-- The laws of the interrupt controller that callers use.
 pub mod Raises
 pub mod Rule

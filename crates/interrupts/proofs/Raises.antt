@@ -1,20 +1,12 @@
--- Raises one after another are the raises of all together. Assumes nothing.
+-- Raises one after another are the raises of all together, and a raise only adds. Assumes nothing.
 use Prim.Native.Nat.{ℕ}
-use mathlib.Core.Path.{_≡_, sym, ap, _∙_}
-use mathlib.Core.List.{List, [], _∷_, _++_}
-use lib.Bits.{bitAnd, bitOr, or-zero-r, or-zero-l, and-zero-l}
-use lib.Dec.{ltb}
-use Rattle.interrupts.specs.Raises.{Raises, onlyIf, raisedBy}
+use mathlib.Core.Path.{_≡_, ap, _∙_}
+use mathlib.Core.Bool.{Bool, _&&_, _||_}
+use lib.Bits.{bitAnd, bitOr, or-zero-r, and-zero-l}
+use Rattle.channels.specs.Channels.{has}
+use Rattle.channels.proofs.Sets.{has-and, has-or, or-and-or}
 use Rattle.interrupts.specs.Interrupts.{raised}
 use Rattle.interrupts.specs.declared.Interrupts.{Interrupts}
-use Rattle.interrupts.proofs.Sets.{or-and-or, or-assoc}
-
-pub raised-by-parts : (xs ys : List Raises) → raisedBy (xs ++ ys) ≡ bitOr (raisedBy xs) (raisedBy ys)
-unfolding raisedBy
-raised-by-parts [] ys = sym (or-zero-l (raisedBy ys))
-raised-by-parts (x ∷ xs) ys =
-    let s = onlyIf (ltb 0 (x .times)) (x .channel) in
-    ap (bitOr s) (raised-by-parts xs ys) ∙ sym (or-assoc s (raisedBy xs) (raisedBy ys))
 
 pub raise-raise : (s t : ℕ) (i : Interrupts) → raised t (raised s i) ≡ raised (bitOr s t) i
 unfolding raised
@@ -26,3 +18,8 @@ raise-none i = λ k. record { enabled = i .enabled; pending = none-more k; servi
   where
     none-more : bitOr (i .pending) (bitAnd 0 (i .enabled)) ≡ i .pending
     none-more = ap (bitOr (i .pending)) (and-zero-l (i .enabled)) ∙ or-zero-r (i .pending)
+
+-- ---- a raise only adds
+pub raise-only-adds : (s : ℕ) (i : Interrupts) (k : ℕ) → has (raised s i .pending) k ≡ (has (i .pending) k || has s k && has (i .enabled) k)
+unfolding raised
+raise-only-adds s i k = has-or _ _ k ∙ ap (λ (b : Bool). has (i .pending) k || b) (has-and s (i .enabled) k)

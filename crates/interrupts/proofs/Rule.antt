@@ -8,17 +8,14 @@ use native.Mathlib.Omega.{arith}
 use lib.Bits.{bitAnd, bitOr, and-block, and-shr, and-mod, and-self, and-comm, and-le-l, and-zero-l}
 use lib.Dec.{eqb, lit<}
 use borrow.Author.Tests.{eq-eqb, eqb-true}
-use Rattle.interrupts.specs.Channels.{has, setOf, half, withHalf}
-use Rattle.interrupts.specs.Interrupts.{kept, S, raised, enabledWritten, pendingWritten, serviceWritten, maskWritten, vectorWritten, interruptWritten, clearInterrupts, given, acknowledgedBy, acknowledged, highest, interruptRule}
-use Rattle.interrupts.specs.declared.Channel.{Channel}
+use Rattle.channels.specs.Channels.{has, half, withHalf}
+use Rattle.interrupts.specs.Interrupts.{kept, S, raised, enabledWritten, pendingWritten, serviceWritten, maskWritten, vectorWritten, interruptWritten, clearInterrupts, interruptRule}
 use Rattle.interrupts.specs.declared.InterruptRegister.{InterruptRegister}
 use Rattle.interrupts.specs.declared.InterruptRegister.the-variants.{Ier, Ipr, Isr, Imr, Vr}
-use Rattle.interrupts.specs.declared.Half.{Half}
-use Rattle.interrupts.specs.declared.Half.the-variants.{A, B}
+use Rattle.channels.specs.declared.Half.{Half}
+use Rattle.channels.specs.declared.Half.the-variants.{A, B}
 use Rattle.interrupts.specs.declared.Interrupts.{Interrupts}
-use Rattle.interrupts.specs.declared.Requesting.{Requesting}
-use Rattle.interrupts.specs.declared.Requesting.the-variants.{By, Nobody}
-use Rattle.interrupts.proofs.Sets.{has-and, has-or, same-set, and-assoc}
+use Rattle.channels.proofs.Sets.{has-and, has-or, same-set, and-assoc}
 
 -- the rule's three parts
 pub record Ruled (i : Interrupts) : Type 0 where
@@ -48,7 +45,7 @@ rule-kept i r = rw (eq-eqb (i .vector % 8) 0 (r .unused), eq-eqb (bitAnd (i .pen
 
 -- ---- pending within enabled
 -- what is taken out of a set within e, or kept of it, is within e
-part-within : (p e m : ℕ) → bitAnd p e ≡ p → bitAnd (bitAnd p m) e ≡ bitAnd p m
+pub part-within : (p e m : ℕ) → bitAnd p e ≡ p → bitAnd (bitAnd p m) e ≡ bitAnd p m
 part-within p e m h = and-assoc p m e ∙ ap (bitAnd p) (and-comm m e) ∙ sym (and-assoc p e m) ∙ ap (λ (s : ℕ). bitAnd s m) h
 
 raise·bool : (p s e : Bool) → (p && e) ≡ p → ((p || s && e) && e) ≡ (p || s && e)
@@ -136,23 +133,6 @@ module _ (i : Interrupts) (r : Ruled i) where
   written-ruled (Isr h) v b = service-ruled h v
   written-ruled (Imr h) v b = mask-ruled h v
   written-ruled Vr v b = vector-ruled v
-
-  given-ruled : (c : Channel) → Ruled (given c i)
-  unfolding given
-  given-ruled c = record {
-    unused = r .unused;
-    within = part-within (i .pending) (i .enabled) (65535 - setOf c) (r .within);
-    empty = λ e. ap (λ (b : Bool). cond b (bitOr (i .service) (setOf c)) (i .service)) e ∙ r .empty e;
-  }
-
-  pub acknowledged-ruled : (iei : Bool) → Ruled (acknowledged iei i .interrupts)
-  unfolding acknowledged
-  acknowledged-ruled false = r
-  acknowledged-ruled true = go (highest i)
-    where
-      go : (q : Requesting) → Ruled (acknowledgedBy q i .interrupts)
-      go (By c) = given-ruled c
-      go Nobody = r
 
 pub clear-ruled : Ruled clearInterrupts
 unfolding S has

@@ -1,4 +1,2 @@
--- Channels and lines, the raises of an event, and the rules of the interrupt controller.
-pub mod Channels
-pub mod Raises
+-- The rules of the interrupt controller's registers.
 pub mod Interrupts

@@ -8,10 +8,10 @@ use native.Mathlib.Omega.{arith}
 use lib.Bits.{bitAnd, bitXor}
 use lib.Dec.{eqb, ltb, eqb→eq}
 use lib.Pow.{pow-lt}
-use Rattle.interrupts.specs.Channels.{has, setOf, channelOf, line}
-use Rattle.interrupts.specs.Raises.{Raises, raisesIf, raisedBy}
-use Rattle.interrupts.proofs.Tables.{everywhere, same}
-use Rattle.interrupts.proofs.Sets.{has-and, has-xor}
+use Rattle.channels.specs.Channels.{has, setOf, channelOf, line}
+use Rattle.channels.specs.Raises.{Raises, raisesIf, raisedBy}
+use Rattle.channels.proofs.Tables.{everywhere, same}
+use Rattle.channels.proofs.Sets.{has-and, has-xor}
 use Rattle.lines.specs.declared.Lines.{Lines}
 use Rattle.lines.specs.Signals.{active, lineActive, muted, lineRaises, linesBelow, ofInputs}
 use Rattle.lines.specs.Private.{heard}

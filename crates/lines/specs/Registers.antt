@@ -3,7 +3,7 @@ use Prim.Native.Nat.{ℕ, _-_, _^_}
 use mathlib.Core.Bool.{Bool, false, cond}
 use lib.Bits.{bitAnd, bitOr}
 use lib.Dec.{leb}
-use Rattle.interrupts.specs.declared.Line.{Line}
+use Rattle.channels.specs.declared.Line.{Line}
 use Rattle.lines.specs.declared.Lines.{Lines}
 use Rattle.lines.specs.declared.LineRegister.{LineRegister}
 use Rattle.lines.specs.declared.LineRegister.the-variants.{Gpdr, Aer, Ddr}

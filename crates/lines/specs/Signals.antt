@@ -3,8 +3,8 @@ use Prim.Native.Nat.{ℕ, zero, suc}
 use mathlib.Core.Bool.{Bool, not, _&&_, _||_, Bool·beq}
 use mathlib.Core.List.{List, [], _∷_, _++_}
 use lib.Dec.{eqb}
-use Rattle.interrupts.specs.Channels.{has, channelOf, line}
-use Rattle.interrupts.specs.Raises.{Raises, raisesIf}
+use Rattle.channels.specs.Channels.{has, channelOf, line}
+use Rattle.channels.specs.Raises.{Raises, raisesIf}
 use Rattle.lines.specs.declared.Lines.{Lines}
 use Rattle.lines.specs.declared.TimerInput.{TimerInput}
 use Rattle.lines.specs.declared.TimerInput.the-variants.{Tai, Tbi}

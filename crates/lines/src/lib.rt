@@ -1,10 +1,10 @@
 // The eight lines and the two timer inputs, by value: GPDR, AER, DDR, the levels, and what a change of
 // signals raises. The rules stand in specs/. Every function is total.
-use interrupts::Line;
+use channels::Line;
 ghost use mathlib.Core.Path.{_≡_};
 ghost use Prim.Native.Nat.{ℕ, _<_};
-ghost use Rattle.interrupts.specs.Channels.{has};
-ghost use Rattle.interrupts.specs.Raises.{raisedBy};
+ghost use Rattle.channels.specs.Channels.{has};
+ghost use Rattle.channels.specs.Raises.{raisedBy};
 ghost use Rattle.lines.specs.Registers.{lineRead, lineWritten, withLevel, withInput, resetLines, freshLines};
 ghost use Rattle.lines.specs.Signals.{active, becomes, ceases, inputActive, inputBecomes, inputCeases, lineRaises, linesBelow, signalRaises, ofInputs};
 ghost use Rattle.lines.specs.Private.{heard};
@@ -225,8 +225,8 @@ impl Lines {
         let by_lines = channels_of(self.raising(after, a, b));
         let ends_a = bits::both(a, self.input_ceases(after, TimerInput::Tai));
         let ends_b = bits::both(b, self.input_ceases(after, TimerInput::Tbi));
-        let by_tai = interrupts::only_if(ends_a, interrupts::channel_of(Line(4)));
-        let by_tbi = interrupts::only_if(ends_b, interrupts::channel_of(Line(3)));
+        let by_tai = channels::only_if(ends_a, channels::channel_of(Line(4)));
+        let by_tbi = channels::only_if(ends_b, channels::channel_of(Line(3)));
         by_lines | (by_tai | by_tbi)
     }
 }

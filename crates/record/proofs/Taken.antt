@@ -7,7 +7,7 @@ use lib.Dec.{leb, eqb}
 use lib.ListN.{getD}
 use borrow.Author.Tests.{leb-true}
 use Rattle.bits.specs.Bytes.{number}
-use Rattle.interrupts.specs.Channels.{line, channel}
+use Rattle.channels.specs.Channels.{line, channel}
 use Rattle.lines.specs.Registers.{isLine}
 use Rattle.events.specs.declared.Event.{Event}
 use Rattle.events.specs.declared.Event.the-variants.{Read, Write, Level, Input, Raise}

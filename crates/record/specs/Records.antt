@@ -5,9 +5,9 @@ use mathlib.Core.List.{List, [], _∷_}
 use lib.Dec.{leb, eqb}
 use lib.ListN.{getD}
 use Rattle.bits.specs.Bytes.{number}
-use Rattle.interrupts.specs.declared.Half.the-variants.{A, B}
+use Rattle.channels.specs.declared.Half.the-variants.{A, B}
 use Rattle.interrupts.specs.declared.InterruptRegister.the-variants.{Ier, Ipr, Isr, Imr, Vr}
-use Rattle.interrupts.specs.Channels.{line, channel}
+use Rattle.channels.specs.Channels.{line, channel}
 use Rattle.timers.specs.declared.TimerRegister.the-variants.{Tacr, Tbcr, Tcdcr, Tadr, Tbdr, Tcdr, Tddr}
 use Rattle.lines.specs.declared.LineRegister.the-variants.{Gpdr, Aer, Ddr}
 use Rattle.lines.specs.declared.TimerInput.{TimerInput}

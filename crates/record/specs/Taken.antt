@@ -2,7 +2,7 @@
 use mathlib.Core.List.{List, [], _∷_}
 use lib.Dec.{eqb}
 use lib.ListN.{getD}
-use Rattle.interrupts.specs.Channels.{line, channel}
+use Rattle.channels.specs.Channels.{line, channel}
 use Rattle.lines.specs.declared.LineRegister.the-variants.{Gpdr}
 use Rattle.events.specs.declared.Register.{Register}
 use Rattle.events.specs.declared.Register.the-variants.{OfLines}

@@ -1,13 +1,13 @@
 // One record of a tape, by value: what the check finds of it, and the event that the run takes of it.
 // The rules stand in specs/Records.antt, what check and run keep of them in Verdicts and Taken. Every
 // function is total.
+use channels::Channel;
+use channels::Half;
+use channels::Line;
 use events::Event;
 use events::Refusal;
 use events::Register;
-use interrupts::Channel;
-use interrupts::Half;
 use interrupts::InterruptRegister;
-use interrupts::Line;
 use lines::LineRegister;
 use lines::TimerInput;
 use timers::TimerRegister;

@@ -4,13 +4,13 @@
 use answer::ANSWER_BYTES;
 use answer::COUNT_BYTES;
 use answer::HEAD_BYTES;
+use channels::Channel;
+use channels::Line;
 use device::Device;
 use device::Stepped;
 use events::Event;
 use events::Refusal;
 use image::Loaded;
-use interrupts::Channel;
-use interrupts::Line;
 use record::RECORD_BYTES;
 use record::Raw;
 use record::Verdict;

@@ -6,10 +6,10 @@ use native.Mathlib.Omega.{arith}
 use lib.Bits.{bitOr, or-zero-r, or-zero-l, or-self}
 use lib.Dec.{ltb}
 use borrow.Author.Tests.{lt-ltb, le-ltb, ltb-true, ltb-false}
-use Rattle.interrupts.specs.declared.Channel.{Channel}
-use Rattle.interrupts.specs.Channels.{setOf, timerA, timerB, timerC, timerD}
-use Rattle.interrupts.specs.Raises.{onlyIf, raisedBy}
-use Rattle.interrupts.proofs.Sets.{or-swap}
+use Rattle.channels.specs.declared.Channel.{Channel}
+use Rattle.channels.specs.Channels.{setOf, timerA, timerB, timerC, timerD}
+use Rattle.channels.specs.Raises.{onlyIf, raisedBy}
+use Rattle.channels.proofs.Sets.{or-swap}
 use Rattle.timers.specs.declared.Timeouts.{Timeouts}
 use Rattle.timers.specs.Clocks.{none, addTimeouts, timeoutRaises}
 

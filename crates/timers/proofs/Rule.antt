@@ -10,7 +10,7 @@ use Rattle.timer.specs.declared.Timer.{Timer}
 use Rattle.timer.specs.Timers.{clocks, pulsed, controlled, reloadWritten, resetTimer, positionRule}
 use Rattle.timer.proofs.Pulses.{pulsed-mode}
 use Rattle.timer.proofs.Rule.{pulsed-ruled, controlled-ruled, written-ruled, reset-ruled, clocks-ruled, clocks-mode}
-use Rattle.interrupts.specs.Channels.{has}
+use Rattle.channels.specs.Channels.{has}
 use Rattle.timers.specs.declared.Timers.{Timers}
 use Rattle.timers.specs.declared.TimerRegister.{TimerRegister}
 use Rattle.timers.specs.declared.TimerRegister.the-variants.{Tacr, Tbcr, Tcdcr, Tadr, Tbdr, Tcdr, Tddr}

@@ -3,8 +3,8 @@ use Prim.Native.Nat.{ℕ, _+_}
 use mathlib.Core.Bool.{Bool, false, cond, _&&_}
 use mathlib.Core.List.{List, [], _∷_}
 use Rattle.timer.specs.Timers.{timeout, pulsed, clocked, reloads, clocks, timeouts}
-use Rattle.interrupts.specs.Channels.{timerA, timerB, timerC, timerD}
-use Rattle.interrupts.specs.Raises.{Raises, raises}
+use Rattle.channels.specs.Channels.{timerA, timerB, timerC, timerD}
+use Rattle.channels.specs.Raises.{Raises, raises}
 use Rattle.timers.specs.declared.Timers.{Timers}
 use Rattle.timers.specs.declared.Timeouts.{Timeouts}
 use Rattle.timers.specs.declared.Advanced.{Advanced}

@@ -5,7 +5,7 @@ use lib.Dec.{leb}
 use Rattle.bits.specs.Bits.{bitValue}
 use Rattle.timer.specs.declared.Timer.{Timer}
 use Rattle.timer.specs.Timers.{controlled, reloadWritten, resetTimer, freshTimer, positionRule}
-use Rattle.interrupts.specs.Channels.{has}
+use Rattle.channels.specs.Channels.{has}
 use Rattle.timers.specs.declared.Timers.{Timers}
 use Rattle.timers.specs.declared.TimerRegister.{TimerRegister}
 use Rattle.timers.specs.declared.TimerRegister.the-variants.{Tacr, Tbcr, Tcdcr, Tadr, Tbdr, Tcdr, Tddr}

@@ -1,11 +1,11 @@
 // The four timers together, by value: clocks, count pulses, the timers' registers, their outputs. The
 // rules stand in specs/. Every function is total.
-use interrupts::Channel;
+use channels::Channel;
 use timer::Timer;
 ghost use mathlib.Core.Path.{_≡_};
 ghost use mathlib.Core.Bool.{cond};
 ghost use Rattle.timer.specs.Timers.{pulsed};
-ghost use Rattle.interrupts.specs.Raises.{raisedBy};
+ghost use Rattle.channels.specs.Raises.{raisedBy};
 ghost use Rattle.timers.specs.Clocks.{none, timeoutRaises, clockedBy, pulsedBy};
 ghost use Rattle.timers.specs.Registers.{tcdcrOf, timerRead, timerWritten, resetTimers, freshTimers, outputsOf, timerRule, timersRule};
 
@@ -79,10 +79,10 @@ impl Timeouts {
     pub fn channels(self) -> u16
         ensures { λ r. ⌜ r ≡ raisedBy (timeoutRaises self) ⌝ }
     {
-        let of_d = interrupts::only_if(0 < self.d, Channel(4));
-        let of_c = interrupts::only_if(0 < self.c, Channel(5));
-        let of_b = interrupts::only_if(0 < self.b, Channel(8));
-        let of_a = interrupts::only_if(0 < self.a, Channel(13));
+        let of_d = channels::only_if(0 < self.d, Channel(4));
+        let of_c = channels::only_if(0 < self.c, Channel(5));
+        let of_b = channels::only_if(0 < self.b, Channel(8));
+        let of_a = channels::only_if(0 < self.a, Channel(13));
         of_a | (of_b | (of_c | of_d))
     }
 }

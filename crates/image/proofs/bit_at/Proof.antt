@@ -1,7 +1,7 @@
 -- `image::bit_at` meets its contract. Assumes nothing.
 use borrow.Author.Needs.{needs}
 use mathlib.Core.Path.{refl}
-use Rattle.interrupts.specs.Channels.{has}
+use Rattle.channels.specs.Channels.{has}
 use Rattle.image.proofs.bit_at.Statement.{statement}
 use Rattle.image.proofs.bit_at.Tie as tie
 

@@ -1,6 +1,6 @@
 -- `interrupts::software_end` meets its contract: S is bit 3. Assumes nothing.
 use mathlib.Core.Path.{refl}
-use Rattle.interrupts.specs.Channels.{has}
+use Rattle.channels.specs.Channels.{has}
 use Rattle.interrupts.specs.Interrupts.{S}
 use Rattle.interrupts.proofs.software_end.Statement.{statement}
 use Rattle.interrupts.proofs.software_end.Tie as tie

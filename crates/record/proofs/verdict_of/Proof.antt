@@ -9,7 +9,7 @@ use Rattle.record.specs.declared.Selected.{Selected}
 use Rattle.events.specs.declared.Event.the-variants.{Reset, Level, Input, Clocks, Acknowledge, Raise}
 use Rattle.events.specs.Ranges.{isSerialChannel}
 use Rattle.lines.specs.Registers.{isLine}
-use Rattle.interrupts.specs.Channels.{line, channel}
+use Rattle.channels.specs.Channels.{line, channel}
 use lib.Dec.{leb, eqb}
 use mathlib.Core.Bool.{Bool, _&&_}
 use Prim.Native.Nat.{ℕ, zero-le}

@@ -6,7 +6,7 @@ use borrow.Author.Needs.{needs}
 use lib.Dec.{eqb}
 use lib.ListN.{getD, List·getD-eq-default}
 use Rattle.bits.specs.Bytes.{byte}
-use Rattle.interrupts.specs.Channels.{channel}
+use Rattle.channels.specs.Channels.{channel}
 use Rattle.events.specs.declared.Event.{Event}
 use Rattle.events.specs.declared.Event.the-variants.{Read, Write, Input, Clocks, Raise}
 use Rattle.record.specs.declared.Decoded.the-variants.{Valid}

@@ -10,7 +10,7 @@ use Rattle.device.specs.declared.Device.{Device}
 use Rattle.events.specs.declared.Answer.the-variants.{Data}
 use Rattle.events.specs.declared.Event.{Event}
 use Rattle.interrupts.specs.Interrupts.{raised}
-use Rattle.interrupts.specs.Raises.{raisedBy}
+use Rattle.channels.specs.Raises.{raisedBy}
 use lib.Bits.{or-zero-r}
 use Prim.Native.Nat.{ℕ}
 use Rattle.device.proofs.Device.begin.Statement.{statement}

@@ -11,7 +11,7 @@ use Rattle.timers.specs.Clocks.{timeoutRaises, clockedBy}
 use Rattle.timers.specs.declared.Advanced.{Advanced}
 use Rattle.timers.specs.declared.Timeouts.{Timeouts}
 use Rattle.interrupts.specs.Interrupts.{raised}
-use Rattle.interrupts.specs.Raises.{raisedBy}
+use Rattle.channels.specs.Raises.{raisedBy}
 use mathlib.Core.Bool.{Bool}
 use Rattle.device.proofs.Device.begin_clocks.Statement.{statement}
 use Rattle.device.proofs.Device.begin_clocks.Tie as tie

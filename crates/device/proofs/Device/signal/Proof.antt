@@ -7,9 +7,9 @@ use Rattle.lines.specs.Signals.{signalRaises, ofInputs}
 use Rattle.timers.specs.Clocks.{timeoutRaises, pulsedBy}
 use Rattle.timers.specs.declared.Advanced.{Advanced}
 use Rattle.timers.specs.declared.Timeouts.{Timeouts}
-use Rattle.interrupts.proofs.Raises.{raised-by-parts}
+use Rattle.channels.proofs.Raises.{raised-by-parts}
 use Rattle.interrupts.specs.Interrupts.{raised}
-use Rattle.interrupts.specs.Raises.{raisedBy}
+use Rattle.channels.specs.Raises.{raisedBy}
 use lib.Bits.{bitOr}
 use mathlib.Core.Bool.{Bool}
 use Prim.Native.Nat.{ℕ}

@@ -2,7 +2,7 @@
 use mathlib.Core.Path.{sym, ap, _∙_}
 use borrow.Author.Needs.{needs}
 use Rattle.lines.specs.Signals.{inputActive}
-use Rattle.interrupts.specs.Channels.{has}
+use Rattle.channels.specs.Channels.{has}
 use Rattle.lines.proofs.Lines.input_is_active.Statement.{statement}
 use Rattle.lines.proofs.Lines.input_is_active.Tie as tie
 

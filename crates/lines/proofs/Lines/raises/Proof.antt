@@ -3,9 +3,9 @@ use mathlib.Core.Path.{sym, ap, ap₂, _∙_}
 use borrow.Author.Needs.{needs}
 use Rattle.lines.proofs.Raising.{lines-agree, once-raised}
 use Rattle.lines.specs.Signals.{lineRaises, linesBelow, pulseEnds, signalRaises, ofInputs}
-use Rattle.interrupts.proofs.Raises.{raised-by-parts}
-use Rattle.interrupts.specs.Raises.{onlyIf, raisedBy}
-use Rattle.interrupts.specs.Channels.{channelOf, has}
+use Rattle.channels.proofs.Raises.{raised-by-parts}
+use Rattle.channels.specs.Raises.{onlyIf, raisedBy}
+use Rattle.channels.specs.Channels.{channelOf, has}
 use lib.Bits.{bitOr, or-zero-r}
 use mathlib.Core.Bool.{_&&_}
 use Rattle.lines.proofs.Lines.raises.Statement.{statement}

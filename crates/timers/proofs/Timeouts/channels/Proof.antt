@@ -2,7 +2,7 @@
 use mathlib.Core.Path.{sym, ap₂, _∙_}
 use borrow.Author.Needs.{needs}
 use lib.Bits.{bitOr, or-zero-r}
-use Rattle.interrupts.specs.Raises.{raisedBy}
+use Rattle.channels.specs.Raises.{raisedBy}
 use Rattle.timers.proofs.Timeouts.channels.Statement.{statement}
 use Rattle.timers.proofs.Timeouts.channels.Tie as tie
 

@@ -2,7 +2,7 @@
 use mathlib.Core.Path.{sym, ap, ap₂, _∙_}
 use borrow.Author.Needs.{needs}
 use Rattle.timers.specs.Registers.{withA, withB, withC, withD, timerWritten}
-use Rattle.interrupts.specs.Channels.{has}
+use Rattle.channels.specs.Channels.{has}
 use Rattle.timers.proofs.Timers.write.Statement.{statement}
 use Rattle.timers.proofs.Timers.write.Tie as tie
 

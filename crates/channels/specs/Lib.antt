@@ -1,0 +1,3 @@
+-- Channels, lines and sets of channels, and the raises of an event.
+pub mod Channels
+pub mod Raises

@@ -1,0 +1,2 @@
+-- Requests, IRQ and the acknowledge.
+pub mod Requests

@@ -16,7 +16,7 @@ use Rattle.timer.proofs.Timer.goes.Reads as timer-Timer-goes
 use Rattle.timer.proofs.Timer.is_due.Reads as timer-Timer-is-due
 use Rattle.timer.proofs.Timer.pulse.Reads as timer-Timer-pulse
 use Rattle.timer.proofs.Timer.clock.Reads as timer-Timer-clock
-use Rattle.timer.proofs.Timer.clocks.Reads as timer-Timer-clocks
+use Rattle.countdown.proofs.clocks.Reads as countdown-clocks
 use Rattle.timer.proofs.Timer.control.Reads as timer-Timer-control
 use Rattle.timer.proofs.Timer.write.Reads as timer-Timer-write
 use Rattle.timer.proofs.Timer.keeps_rule.Reads as timer-Timer-keeps-rule
@@ -136,7 +136,7 @@ timer-Timer-pulse-fixed κs a x y s t p q = one p q
 timer-Timer-clock-fixed : FixesResult timer-Timer-clock.Learnt
 timer-Timer-clock-fixed κs a x y s t p q = one p q
 
-timer-Timer-clocks-fixed : FixesResult timer-Timer-clocks.Learnt
+timer-Timer-clocks-fixed : FixesResult countdown-clocks.Learnt
 timer-Timer-clocks-fixed κs a x y s t p q = λ k. record { timer = one (p .0) (q .0) k; timeouts = one (p .1) (q .1) k }
 
 timer-Timer-control-fixed : FixesResult timer-Timer-control.Learnt

@@ -9,10 +9,10 @@ use lib.Bits.{bitAnd, and-le-l}
 use borrow.Author.Tests.{eqb-false, lt-ltb, leb-true, ne-eqb}
 use Rattle.timer.specs.declared.Timer.{Timer}
 use Rattle.timer.specs.Timers.{delay, pulseWidth, runs, clocks, timeouts, reloadWritten}
-use Rattle.timer.specs.Countdown.{unit, left, ranOut, span, toGo, toggled, pulsesIn, positionAfter, timeoutsIn, counterAfter}
-use Rattle.timer.proofs.Countdowns.{left-either, times-either}
-use Rattle.timer.proofs.Pulses.{span-pos}
-use Rattle.timer.proofs.Clocks.{atOnce, clocks-at-once, timeouts-at-once}
+use Rattle.countdown.specs.Countdown.{unit, left, ranOut, span, toGo, toggled, pulsesIn, positionAfter, timeoutsIn, counterAfter}
+use Rattle.countdown.proofs.Countdowns.{left-either, times-either}
+use Rattle.countdown.proofs.Pulses.{span-pos}
+use Rattle.countdown.proofs.AtOnce.{atOnce, clocks-at-once, timeouts-at-once}
 use Rattle.channels.specs.declared.Half.{Half}
 use Rattle.channels.specs.declared.Half.the-variants.{A, B}
 use Rattle.channels.specs.Channels.{has, setOf, channelOf, half, withHalf}

@@ -10,7 +10,7 @@ use lib.Dec.{lit<}
 use Rattle.bits.specs.Bits.{bitValue}
 use Rattle.timer.specs.declared.Timer.{Timer}
 use Rattle.timer.specs.Timers.{eventCount, runs, withPosition, pulsed, atDivisor, clocked, clocks, controlled, reloadWritten}
-use Rattle.timer.proofs.Pulses.{pulsed-mode, pulsed-reload, pulsed-position}
+use Rattle.timer.proofs.Pulsed.{pulsed-mode, pulsed-reload, pulsed-position}
 use Rattle.timer.proofs.Rule.{clocks-mode}
 use Rattle.channels.specs.declared.Half.{Half}
 use Rattle.channels.specs.declared.Half.the-variants.{A as HighHalf, B as LowHalf}

@@ -1,5 +1,4 @@
--- The laws of a timer, proved once over the divisor.
-pub mod Countdowns
-pub mod Pulses
-pub mod Clocks
+-- The laws of one timer.
+pub mod Pulsed
+pub mod Clocked
 pub mod Rule

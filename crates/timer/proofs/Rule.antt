@@ -8,8 +8,8 @@ use lib.Dec.{eqb, ltb, lit≤}
 use borrow.Author.Tests.{ne-eqb, eqb-true, eqb-false, lt-ltb}
 use Rattle.timer.specs.declared.Timer.{Timer}
 use Rattle.timer.specs.Timers.{divisor, runs, pulsed, clocked, clocks, controlled, reloadWritten, resetTimer, positionRule}
-use Rattle.timer.proofs.Pulses.{pulsed-mode, pulsed-position}
-use Rattle.timer.proofs.Clocks.{divisor-runs, running-row, clock-idle, clocked-mode, clocked-runs, clocked-below}
+use Rattle.timer.proofs.Pulsed.{pulsed-mode, pulsed-position}
+use Rattle.timer.proofs.Clocked.{divisor-runs, running-row, clock-idle, clocked-mode, clocked-runs, clocked-below}
 
 -- the rule looks at the mode and the position alone
 abbrev rule : ℕ → ℕ → Bool

@@ -1,3 +1,2 @@
--- The rules of one timer, and the countdown that its position and its counter both are.
+-- The rules of one timer.
 pub mod Timers
-pub mod Countdown

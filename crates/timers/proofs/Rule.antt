@@ -8,7 +8,7 @@ use borrow.Author.Tests.{leb-true, le-leb}
 use Rattle.bits.proofs.Bits.{halves, joined}
 use Rattle.timer.specs.declared.Timer.{Timer}
 use Rattle.timer.specs.Timers.{clocks, pulsed, controlled, reloadWritten, resetTimer, positionRule}
-use Rattle.timer.proofs.Pulses.{pulsed-mode}
+use Rattle.timer.proofs.Pulsed.{pulsed-mode}
 use Rattle.timer.proofs.Rule.{pulsed-ruled, controlled-ruled, written-ruled, reset-ruled, clocks-ruled, clocks-mode}
 use Rattle.channels.specs.Channels.{has}
 use Rattle.timers.specs.declared.Timers.{Timers}

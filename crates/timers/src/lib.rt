@@ -129,10 +129,10 @@ impl Timers {
         let b = self.b;
         let c = self.c;
         let d = self.d;
-        let of_a = a.clocks(tai, n);
-        let of_b = b.clocks(tbi, n);
-        let of_c = c.clocks(false, n);
-        let of_d = d.clocks(false, n);
+        let of_a = countdown::clocks(a, tai, n);
+        let of_b = countdown::clocks(b, tbi, n);
+        let of_c = countdown::clocks(c, false, n);
+        let of_d = countdown::clocks(d, false, n);
         let next_a = of_a.timer;
         let next_b = of_b.timer;
         let next_c = of_c.timer;

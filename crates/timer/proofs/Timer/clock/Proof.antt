@@ -3,7 +3,7 @@ use mathlib.Core.Path.{_∙_, sym}
 use borrow.Author.Needs.{needs}
 use borrow.Author.Tests.{not-true, not-false}
 use Rattle.timer.specs.Timers.{withPosition}
-use Rattle.timer.proofs.Clocks.{clock-idle, clock-pulse, clock-on}
+use Rattle.timer.proofs.Clocked.{clock-idle, clock-pulse, clock-on}
 use Rattle.timer.proofs.Timer.clock.Statement.{statement}
 use Rattle.timer.proofs.Timer.clock.Tie as tie
 

@@ -8,7 +8,7 @@ use native.Mathlib.Omega.{arith}
 use lib.Arith.{digits-div, digits-mod}
 use lib.Dec.{eqb, ltb}
 use borrow.Author.Tests.{ne-eqb, ltb-true, ltb-false, eqb-true, eqb-false}
-use Rattle.timer.specs.Countdown.{unit, left, ranOut}
+use Rattle.countdown.specs.Countdown.{unit, left, ranOut}
 
 -- at 1 a unit starts anew
 unit-last : (period : ℕ) → unit period 1 ≡ period

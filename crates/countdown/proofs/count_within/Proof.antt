@@ -1,12 +1,12 @@
--- `timer::count_within` meets its contract: the whole periods of n, and one more where the rest runs out. Assumes nothing.
+-- `countdown::count_within` meets its contract: the whole periods of n, and one more where the rest runs out. Assumes nothing.
 use Prim.Native.Nat.{_/_}
 use mathlib.Core.Path.{sym}
 use borrow.Author.Needs.{needs}
 use native.Mathlib.Nat.{mod-lt, div-add-mod', le-mul-of-pos-right}
 use native.Mathlib.Omega.{arith}
-use Rattle.timer.proofs.Countdowns.{left-few, times-few, left-more, times-more}
-use Rattle.timer.proofs.count_within.Statement.{statement}
-use Rattle.timer.proofs.count_within.Tie as tie
+use Rattle.countdown.proofs.Countdowns.{left-few, times-few, left-more, times-more}
+use Rattle.countdown.proofs.count_within.Statement.{statement}
+use Rattle.countdown.proofs.count_within.Tie as tie
 
 div-whole : tie.Need-div-whole
 div-whole c = search needs

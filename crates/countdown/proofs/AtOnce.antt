@@ -1,32 +1,19 @@
 -- n clocks at once, proved once over the divisor: a timer's position is a countdown of clocks, and each time it runs out the counter takes a pulse.
 -- It serves delay and pulse-width modes and all four timers. Assumes nothing.
-use Prim.Native.Nat.{ℕ, zero, suc, _+_, _-_, _%_, _≤_, _<_}
+use Prim.Native.Nat.{ℕ, zero, suc, _+_, _-_, _≤_, _<_}
 use mathlib.Core.Path.{_≡_, refl, sym, ap, ap₂, _∙_}
-use mathlib.Core.Bool.{Bool, true, false, cond, not, _&&_, _||_, false≢true}
-use mathlib.Core.List.{[], _∷_}
+use mathlib.Core.Bool.{Bool, true, false, cond}
 use native.Mathlib.Omega.{arith}
 use native.Mathlib.Numerals.{one-add}
-use native.Mathlib.Nat.{zero-add, sub-zero, le-trans, le-refl}
-use lib.Dec.{eqb, leb, ltb, lit≤}
-use lib.ListN.{getD}
-use borrow.Author.Tests.{le-leb, lt-leb, lt-ltb, leb-true, leb-false, ltb-true, ne-eqb}
+use native.Mathlib.Nat.{zero-add, sub-zero, le-refl}
+use lib.Dec.{eqb, leb, ltb}
+use borrow.Author.Tests.{lt-ltb, ltb-true, ne-eqb}
 use Rattle.timer.specs.declared.Timer.{Timer}
-use Rattle.timer.specs.Timers.{divisor, delay, pulseWidth, runs, withPosition, timeout, reloaded, countedDown, pulsed, atDivisor, clocked, reloads, clocks, timeouts}
-use Rattle.timer.specs.Countdown.{unit, left, ranOut, toGo, toggled, pulsesIn, positionAfter, timeoutsIn, counterAfter}
-use Rattle.timer.proofs.Pulses.{pulses, pulseReloads, pulsed-mode, pulsed-position, pulses-count, pulses-at-once, atPulse}
-
--- ---- one clock, in its three cases
-pub clock-idle : (active : Bool) (t : Timer) → runs active t ≡ false → clocked active t ≡ t
-unfolding clocked
-clock-idle active t h = rw h refl
-
-pub clock-pulse : (active : Bool) (t : Timer) → runs active t ≡ true → divisor (t .mode) ≤ t .position + 1 → clocked active t ≡ pulsed (withPosition 0 t)
-unfolding clocked atDivisor
-clock-pulse active t h e = rw (h, le-leb _ _ e) refl
-
-pub clock-on : (active : Bool) (t : Timer) → runs active t ≡ true → t .position + 1 < divisor (t .mode) → clocked active t ≡ withPosition (t .position + 1) t
-unfolding clocked atDivisor
-clock-on active t h e = rw (h, lt-leb _ _ e) refl
+use Rattle.timer.specs.Timers.{divisor, runs, withPosition, timeout, reloaded, countedDown, pulsed, clocked, reloads, clocks, timeouts}
+use Rattle.timer.proofs.Pulsed.{pulsed-position}
+use Rattle.timer.proofs.Clocked.{by-clock, least, clocked-mode, clocked-runs, clocked-below, reloads-pulse, reloads-clock}
+use Rattle.countdown.specs.Countdown.{unit, left, ranOut, toGo, toggled, pulsesIn, positionAfter, timeoutsIn, counterAfter}
+use Rattle.countdown.proofs.Pulses.{pulses, pulseReloads, pulses-count, pulses-at-once, atPulse}
 
 -- ---- a timer that does not run
 pub idle-clocks : (active : Bool) (n : ℕ) (t : Timer) → runs active t ≡ false → clocks active n t ≡ t
@@ -118,43 +105,6 @@ module _ (d n : ℕ) (t : Timer) where
   unfolding ranOut pulseReloads withPosition
   made-pulse q h = rw (last-clock d (t .position) q h, unit-pulse d (t .position) q h, one-add, toGo-below d 0 q, sub-zero) (ap (λ (u : Timer). cond (eqb (t .counter) 1) 1 0 + pulseReloads (ranOut d n d) u) (pulsed-at 0 t))
 
--- ---- a running timer's own divisor
-divisor-least : (k : ℕ) → 1 ≤ k → k < 8 → 4 ≤ getD (0 ∷ 4 ∷ 10 ∷ 16 ∷ 50 ∷ 64 ∷ 100 ∷ 200 ∷ []) k 0
-divisor-least zero p h = absurd (omega arith)
-divisor-least (suc zero) p h = lit≤ tt
-divisor-least (suc (suc zero)) p h = lit≤ tt
-divisor-least (suc (suc (suc zero))) p h = lit≤ tt
-divisor-least (suc (suc (suc (suc zero)))) p h = lit≤ tt
-divisor-least (suc (suc (suc (suc (suc zero))))) p h = lit≤ tt
-divisor-least (suc (suc (suc (suc (suc (suc zero)))))) p h = lit≤ tt
-divisor-least (suc (suc (suc (suc (suc (suc (suc zero))))))) p h = lit≤ tt
-divisor-least (suc (suc (suc (suc (suc (suc (suc (suc k)))))))) p h = absurd (omega arith)
-
-between : (low high mode : ℕ) → leb low mode && leb mode high ≡ true → (low ≤ mode) × (mode ≤ high)
-between low high mode e = go (leb low mode) (leb mode high) refl refl e
-  where
-    go : (a b : Bool) → leb low mode ≡ a → leb mode high ≡ b → a && b ≡ true → (low ≤ mode) × (mode ≤ high)
-    go true true p q e = (leb-true _ _ p, leb-true _ _ q)
-    go true false p q e = absurd (false≢true e)
-    go false true p q e = absurd (false≢true e)
-    go false false p q e = absurd (false≢true e)
-
-pub divisor-runs : (mode : ℕ) → (mode % 8 ≡ 0 → ⊥) → 4 ≤ divisor mode
-unfolding divisor
-divisor-runs mode h = divisor-least (mode % 8) (omega arith) (omega arith)
-
-pub running-row : (active : Bool) (t : Timer) → runs active t ≡ true → t .mode % 8 ≡ 0 → ⊥
-unfolding runs delay pulseWidth
-running-row active t h z = go (delay (t .mode)) (pulseWidth (t .mode)) refl refl h
-  where
-    go : (a b : Bool) → delay (t .mode) ≡ a → pulseWidth (t .mode) ≡ b → (a || b && active) ≡ true → ⊥
-    go true b p q e = let w : (1 ≤ t .mode) × (t .mode ≤ 7) = between 1 7 (t .mode) p in omega arith
-    go false true p q e = let w : (9 ≤ t .mode) × (t .mode ≤ 15) = between 9 15 (t .mode) q in omega arith
-    go false false p q e = false≢true e
-
-pub running-divisor : (active : Bool) (t : Timer) → runs active t ≡ true → 4 ≤ divisor (t .mode)
-running-divisor active t h = divisor-runs (t .mode) (running-row active t h)
-
 -- ---- the law
 abbrev ended : ℕ → Timer → Timer
 ended n t = after (divisor (t .mode)) n (toGo (divisor (t .mode)) (t .position)) t
@@ -162,58 +112,23 @@ ended n t = after (divisor (t .mode)) n (toGo (divisor (t .mode)) (t .position))
 abbrev counted : ℕ → Timer → ℕ
 counted n t = made (divisor (t .mode)) n (toGo (divisor (t .mode)) (t .position)) t
 
-same-runs : (active : Bool) (u t : Timer) → u .mode ≡ t .mode → runs active u ≡ runs active t
-unfolding runs
-same-runs active u t e = ap (λ (m : ℕ). delay m || pulseWidth m && active) e
-
--- what one clock leaves of a timer that runs
 module _ (active : Bool) (t : Timer) (h : runs active t ≡ true) where
-  by-clock : (P : Timer → Type 0) → (divisor (t .mode) ≤ t .position + 1 → P (pulsed (withPosition 0 t))) → (t .position + 1 < divisor (t .mode) → P (withPosition (t .position + 1) t)) → P (clocked active t)
-  unfolding clocked atDivisor
-  by-clock P f g = rw h (go (leb (divisor (t .mode)) (t .position + 1)) refl)
-    where
-      go : (b : Bool) → leb (divisor (t .mode)) (t .position + 1) ≡ b → P (cond b (pulsed (withPosition 0 t)) (withPosition (t .position + 1) t))
-      go true e = f (leb-true _ _ e)
-      go false e = g (leb-false _ _ e)
-
-  least : 1 ≤ divisor (t .mode)
-  least = le-trans (lit≤ tt) (running-divisor active t h)
-
-  pub clocked-mode : clocked active t .mode ≡ t .mode
-  unfolding withPosition
-  clocked-mode = by-clock (λ u. u .mode ≡ t .mode) (λ e. pulsed-mode (withPosition 0 t)) (λ e. refl)
-
-  pub clocked-runs : runs active (clocked active t) ≡ true
-  clocked-runs = same-runs active (clocked active t) t clocked-mode ∙ h
-
-  pub clocked-below : clocked active t .position < divisor (clocked active t .mode)
-  unfolding withPosition
-  clocked-below = rw clocked-mode (by-clock (λ u. u .position < divisor (t .mode)) (λ e. rw (pulsed-position (withPosition 0 t)) least) (λ e. e))
-
   -- n clocks more end where n + 1 of the timer do, and make the reloads that those make after the first
   clocked-ended : (n : ℕ) → ended n (clocked active t) ≡ ended (suc n) t
   unfolding withPosition
   clocked-ended n =
-      ap (λ (d : ℕ). after d n (toGo d (clocked active t .position)) (clocked active t)) (ap divisor clocked-mode)
-      ∙ by-clock (λ u. after (divisor (t .mode)) n (toGo (divisor (t .mode)) (u .position)) u ≡ ended (suc n) t)
-      (λ e. ap (λ (q : ℕ). after (divisor (t .mode)) n (toGo (divisor (t .mode)) q) (pulsed (withPosition 0 t))) (pulsed-position (withPosition 0 t)) ∙ after-pulse (divisor (t .mode)) n t least e)
+      ap (λ (d : ℕ). after d n (toGo d (clocked active t .position)) (clocked active t)) (ap divisor (clocked-mode active t h))
+      ∙ by-clock active t h (λ u. after (divisor (t .mode)) n (toGo (divisor (t .mode)) (u .position)) u ≡ ended (suc n) t)
+      (λ e. ap (λ (q : ℕ). after (divisor (t .mode)) n (toGo (divisor (t .mode)) q) (pulsed (withPosition 0 t))) (pulsed-position (withPosition 0 t)) ∙ after-pulse (divisor (t .mode)) n t (least active t h) e)
       (λ e. after-clock (divisor (t .mode)) n t e)
-
-  reloads-pulse : divisor (t .mode) ≤ t .position + 1 → reloads active t ≡ cond (timeout t) 1 0
-  unfolding reloads atDivisor
-  reloads-pulse e = rw (h, le-leb _ _ e) refl
-
-  reloads-clock : t .position + 1 < divisor (t .mode) → reloads active t ≡ 0
-  unfolding reloads atDivisor
-  reloads-clock e = rw (h, lt-leb _ _ e) refl
 
   clocked-counted : (n : ℕ) → reloads active t + counted n (clocked active t) ≡ counted (suc n) t
   unfolding withPosition
   clocked-counted n =
-      ap (λ (d : ℕ). reloads active t + made d n (toGo d (clocked active t .position)) (clocked active t)) (ap divisor clocked-mode)
-      ∙ by-clock (λ u. reloads active t + made (divisor (t .mode)) n (toGo (divisor (t .mode)) (u .position)) u ≡ counted (suc n) t)
-      (λ e. ap₂ (λ (r q : ℕ). r + made (divisor (t .mode)) n (toGo (divisor (t .mode)) q) (pulsed (withPosition 0 t))) (reloads-pulse e) (pulsed-position (withPosition 0 t)) ∙ made-pulse (divisor (t .mode)) n t least e)
-      (λ e. ap (λ (r : ℕ). r + made (divisor (t .mode)) n (toGo (divisor (t .mode)) (t .position + 1)) (withPosition (t .position + 1) t)) (reloads-clock e) ∙ zero-add _ ∙ made-clock (divisor (t .mode)) n t e)
+      ap (λ (d : ℕ). reloads active t + made d n (toGo d (clocked active t .position)) (clocked active t)) (ap divisor (clocked-mode active t h))
+      ∙ by-clock active t h (λ u. reloads active t + made (divisor (t .mode)) n (toGo (divisor (t .mode)) (u .position)) u ≡ counted (suc n) t)
+      (λ e. ap₂ (λ (r q : ℕ). r + made (divisor (t .mode)) n (toGo (divisor (t .mode)) q) (pulsed (withPosition 0 t))) (reloads-pulse active t h e) (pulsed-position (withPosition 0 t)) ∙ made-pulse (divisor (t .mode)) n t (least active t h) e)
+      (λ e. ap (λ (r : ℕ). r + made (divisor (t .mode)) n (toGo (divisor (t .mode)) (t .position + 1)) (withPosition (t .position + 1) t)) (reloads-clock active t h e) ∙ zero-add _ ∙ made-clock (divisor (t .mode)) n t e)
 
 -- n clocks of a timer that runs, its position below its divisor
 clocks-below : (active : Bool) (n : ℕ) (t : Timer) → runs active t ≡ true → t .position < divisor (t .mode) → clocks active n t ≡ ended n t

@@ -1,12 +1,12 @@
--- `timer::count` meets its contract: each way out is the countdown's closed form. Assumes nothing.
+-- `countdown::count` meets its contract: each way out is the countdown's closed form. Assumes nothing.
 use Prim.Native.Nat.{_+_, _-_, _*_, _<_}
 use mathlib.Core.Path.{sym}
 use borrow.Author.Needs.{needs}
 use native.Mathlib.Nat.{div-lt-iff-lt-mul, mod-lt, le-of-lt}
 use native.Mathlib.Omega.{arith}
-use Rattle.timer.proofs.Countdowns.{left-before, none-before, left-either, times-either}
-use Rattle.timer.proofs.count.Statement.{statement}
-use Rattle.timer.proofs.count.Tie as tie
+use Rattle.countdown.proofs.Countdowns.{left-before, none-before, left-either, times-either}
+use Rattle.countdown.proofs.count.Statement.{statement}
+use Rattle.countdown.proofs.count.Tie as tie
 
 add-ahead : tie.Need-add-ahead
 add-ahead c = search needs

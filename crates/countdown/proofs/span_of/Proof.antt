@@ -1,8 +1,8 @@
--- `timer::span_of` meets its contract. Assumes nothing.
+-- `countdown::span_of` meets its contract. Assumes nothing.
 use borrow.Author.Tests.{eq-eqb, ne-eqb}
-use Rattle.timer.specs.Countdown.{span}
-use Rattle.timer.proofs.span_of.Statement.{statement}
-use Rattle.timer.proofs.span_of.Tie as tie
+use Rattle.countdown.specs.Countdown.{span}
+use Rattle.countdown.proofs.span_of.Statement.{statement}
+use Rattle.countdown.proofs.span_of.Tie as tie
 
 returns : tie.Need-returns
 unfolding span

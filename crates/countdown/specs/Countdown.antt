@@ -1,9 +1,9 @@
--- A countdown, one unit at a time: what a timer's position (units: clocks) and its counter (units: count pulses) have in common. Only private functions promise it; the rules are in Timers.
+-- A countdown, one unit at a time: what a timer's position (units: clocks) and its counter (units: count pulses) have in common. Only private functions promise it; the rules are crate timer's.
 use Prim.Native.Nat.{ℕ, zero, suc, _+_, _-_, _%_}
 use mathlib.Core.Bool.{Bool, cond, not}
 use lib.Dec.{eqb, ltb}
 use Rattle.timer.specs.declared.Timer.{Timer}
 use Rattle.timer.specs.Timers.{divisor}
 
 -- One unit: at 1 the countdown has run out and starts anew from its period; else it goes down by 1.
 unfoldable pub unit : ℕ → ℕ → ℕ

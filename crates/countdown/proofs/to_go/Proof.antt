@@ -1,9 +1,9 @@
--- `timer::to_go` meets its contract. Assumes nothing.
+-- `countdown::to_go` meets its contract. Assumes nothing.
 use borrow.Author.Needs.{needs}
 use borrow.Author.Tests.{lt-ltb, le-ltb}
-use Rattle.timer.specs.Countdown.{toGo}
-use Rattle.timer.proofs.to_go.Statement.{statement}
-use Rattle.timer.proofs.to_go.Tie as tie
+use Rattle.countdown.specs.Countdown.{toGo}
+use Rattle.countdown.proofs.to_go.Statement.{statement}
+use Rattle.countdown.proofs.to_go.Tie as tie
 
 sub-result : tie.Need-sub-result
 sub-result c = search needs

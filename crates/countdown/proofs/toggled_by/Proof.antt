@@ -1,8 +1,8 @@
--- `timer::toggled_by` meets its contract. Assumes nothing.
+-- `countdown::toggled_by` meets its contract. Assumes nothing.
 use borrow.Author.Tests.{eq-eqb, ne-eqb}
-use Rattle.timer.specs.Countdown.{toggled}
-use Rattle.timer.proofs.toggled_by.Statement.{statement}
-use Rattle.timer.proofs.toggled_by.Tie as tie
+use Rattle.countdown.specs.Countdown.{toggled}
+use Rattle.countdown.proofs.toggled_by.Statement.{statement}
+use Rattle.countdown.proofs.toggled_by.Tie as tie
 
 returns : tie.Need-returns
 unfolding toggled

@@ -6,9 +6,10 @@ use native.Mathlib.Omega.{arith}
 use native.Mathlib.Nat.{mod-eq-of-lt, zero-add}
 use lib.Dec.{eqb}
 use borrow.Author.Tests.{eq-eqb, ne-eqb, eqb-true, eqb-false}
 use Rattle.timer.specs.declared.Timer.{Timer}
 use Rattle.timer.specs.Timers.{timeout, reloaded, countedDown, pulsed}
-use Rattle.timer.specs.Countdown.{unit, left, ranOut, span, toggled}
+use Rattle.timer.proofs.Pulsed.{by-timeout, pulsed-mode, pulsed-reload, pulsed-position, pulsed-output}
+use Rattle.countdown.specs.Countdown.{unit, left, ranOut, span, toggled}
 
 -- k pulses, and the reloads that they make
 unfoldable pub pulses : ℕ → Timer → Timer
@@ -74,33 +75,9 @@ toggled-more k o = go (eqb (k % 2) 0) refl o
 
 -- ---- one pulse, part by part
 module _ (t : Timer) where
-  by-timeout : (P : Timer → Type 0) → (timeout t ≡ true → P (reloaded t)) → (timeout t ≡ false → P (countedDown t)) → P (pulsed t)
-  unfolding pulsed
-  by-timeout P f g = go (timeout t) refl
-    where
-      go : (b : Bool) → timeout t ≡ b → P (cond b (reloaded t) (countedDown t))
-      go true e = f e
-      go false e = g e
-
-  pub pulsed-mode : pulsed t .mode ≡ t .mode
-  unfolding reloaded countedDown
-  pulsed-mode = by-timeout (λ u. u .mode ≡ t .mode) (λ e. refl) (λ e. refl)
-
-  pub pulsed-reload : pulsed t .reload ≡ t .reload
-  unfolding reloaded countedDown
-  pulsed-reload = by-timeout (λ u. u .reload ≡ t .reload) (λ e. refl) (λ e. refl)
-
-  pub pulsed-position : pulsed t .position ≡ t .position
-  unfolding reloaded countedDown
-  pulsed-position = by-timeout (λ u. u .position ≡ t .position) (λ e. refl) (λ e. refl)
-
-  pulsed-output : pulsed t .output ≡ cond (timeout t) (not (t .output)) (t .output)
-  unfolding reloaded countedDown
-  pulsed-output = by-timeout (λ u. u .output ≡ cond (timeout t) (not (t .output)) (t .output)) (λ e. rw e refl) (λ e. rw e refl)
-
   pub pulsed-byte : t .reload < 256 → t .counter < 256 → pulsed t .counter < 256
   unfolding reloaded countedDown
-  pulsed-byte r h = by-timeout (λ u. u .counter < 256) (λ e. r) (λ e. down-byte (t .counter) h)
+  pulsed-byte r h = by-timeout t (λ u. u .counter < 256) (λ e. r) (λ e. down-byte (t .counter) h)
 
   -- a timeout is the countdown's running out
   timeout-last : timeout t ≡ eqb (span (t .counter)) 1
@@ -110,7 +87,7 @@ module _ (t : Timer) where
   pulsed-counter : span (pulsed t .counter) ≡ unit (span (t .reload)) (span (t .counter))
   unfolding reloaded countedDown unit
   pulsed-counter =
-      by-timeout (λ u. span (u .counter) ≡ unit (span (t .reload)) (span (t .counter)))
+      by-timeout t (λ u. span (u .counter) ≡ unit (span (t .reload)) (span (t .counter)))
       (λ e. rw (span-last (t .counter), e) refl)
       (λ e. rw (span-last (t .counter), e) (span-down (t .counter) (eqb-false _ _ e)))
 

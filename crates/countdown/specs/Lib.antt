@@ -1,0 +1,2 @@
+-- The countdown that a timer's position and its counter both are.
+pub mod Countdown

@@ -6,7 +6,7 @@ use Rattle.bits.specs.Bytes.{four}
 use Rattle.timers.specs.declared.Timeouts.{Timeouts}
 use Rattle.events.specs.Numbers.{classOf, valueOf}
 use Rattle.device.specs.declared.Stepped.{Stepped}
-use Rattle.device.specs.Events.{irqOf, shownOutputs}
+use Rattle.device.specs.Whole.{irqOf, shownOutputs}
 
 -- what stands before an answer's counts, one count, and a whole answer
 abbrev pub headBytes : ℕ

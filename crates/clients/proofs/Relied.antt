@@ -9,7 +9,7 @@ use lib.ListN.{length}
 use borrow.Author.Tests.{eq-eqb}
 use Rattle.bits.specs.Bytes.{byte}
 use Rattle.device.specs.declared.Device.{Device}
-use Rattle.device.specs.Events.{freshDevice, imageRule}
+use Rattle.device.specs.Whole.{freshDevice, imageRule}
 use Rattle.image.specs.declared.Loaded.{Loaded}
 use Rattle.image.specs.declared.Loaded.the-variants.{Accepted, Refused}
 use Rattle.image.specs.declared.Saved.{Saved}

@@ -66,11 +66,11 @@ use Rattle.device.proofs.Device.reset.Reads as device-Device-reset
 use Rattle.device.proofs.Device.irq.Reads as device-Device-irq
 use Rattle.device.proofs.Device.outputs.Reads as device-Device-outputs
 use Rattle.device.proofs.Device.read.Reads as device-Device-read
-use Rattle.device.proofs.Device.step.Reads as device-Device-step
-use Rattle.device.proofs.Device.write.Reads as device-Device-write
-use Rattle.device.proofs.Device.acknowledge.Reads as device-Device-acknowledge
+use Rattle.step.proofs.step.Reads as step-step
+use Rattle.step.proofs.write.Reads as step-write
+use Rattle.step.proofs.acknowledge.Reads as step-acknowledge
 use Rattle.device.proofs.Device.keeps_rule.Reads as device-Device-keeps-rule
-use Rattle.device.proofs.Device.handle.Reads as device-Device-handle
+use Rattle.lent.proofs.handle.Reads as lent-handle
 use Rattle.record.proofs.read_select.Reads as record-read-select
 use Rattle.record.proofs.write_select.Reads as record-write-select
 use Rattle.record.proofs.known.Reads as record-known
@@ -291,20 +291,20 @@ device-Device-outputs-fixed κs a x y s t p q = one p q
 device-Device-read-fixed : FixesResult device-Device-read.Learnt
 device-Device-read-fixed κs a x y s t p q = one p q
 
-device-Device-step-fixed : FixesResult device-Device-step.Learnt
-device-Device-step-fixed κs a x y s t p q = one p q
+step-step-fixed : FixesResult step-step.Learnt
+step-step-fixed κs a x y s t p q = one p q
 
-device-Device-write-fixed : FixesResult device-Device-write.Learnt
-device-Device-write-fixed κs a x y s t p q = one p q
+step-write-fixed : FixesResult step-write.Learnt
+step-write-fixed κs a x y s t p q = one p q
 
-device-Device-acknowledge-fixed : FixesResult device-Device-acknowledge.Learnt
-device-Device-acknowledge-fixed κs a x y s t p q = one p q
+step-acknowledge-fixed : FixesResult step-acknowledge.Learnt
+step-acknowledge-fixed κs a x y s t p q = one p q
 
 device-Device-keeps-rule-fixed : FixesResult device-Device-keeps-rule.Learnt
 device-Device-keeps-rule-fixed κs a x y s t p q = one p q
 
-device-Device-handle-fixed : FixesResult device-Device-handle.Learnt
-device-Device-handle-fixed κs a x y s t p q = one p q
+lent-handle-fixed : FixesResult lent-handle.Learnt
+lent-handle-fixed κs a x y s t p q = one p q
 
 -- ---- record
 record-read-select-fixed : FixesResult record-read-select.Learnt

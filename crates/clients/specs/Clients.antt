@@ -5,7 +5,7 @@ use mathlib.Core.Bool.{true}
 use mathlib.Core.List.{List}
 use lib.ListN.{length}
 use Rattle.device.specs.declared.Device.{Device}
-use Rattle.device.specs.Events.{freshDevice, imageRule}
+use Rattle.device.specs.Whole.{freshDevice, imageRule}
 use Rattle.image.specs.declared.Loaded.{Loaded}
 use Rattle.image.specs.declared.Loaded.the-variants.{Accepted}
 use Rattle.image.specs.declared.Saved.{Saved}

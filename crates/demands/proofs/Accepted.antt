@@ -10,7 +10,8 @@ use Rattle.timer.specs.Timers.{positionRule}
 use Rattle.channels.specs.Channels.{has}
 use Rattle.interrupts.specs.Interrupts.{S, interruptRule}
 use Rattle.timers.specs.Registers.{timerRule, timersRule}
-use Rattle.device.specs.Events.{freshDevice, stepOf, imageRule}
+use Rattle.device.specs.Whole.{freshDevice, imageRule}
+use Rattle.step.specs.Events.{stepOf}
 use Rattle.image.specs.Image.{imageOf, deviceOf}
 use Rattle.record.specs.declared.Decoded.{Decoded}
 use Rattle.record.specs.declared.Decoded.the-variants.{Valid, Invalid}

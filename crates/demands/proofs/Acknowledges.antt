@@ -21,9 +21,10 @@ use Rattle.events.specs.declared.Event.the-variants.{Acknowledge}
 use Rattle.events.specs.declared.Answer.{Answer}
 use Rattle.events.specs.declared.Answer.the-variants.{Done, Data, Vector, PassedOn, Held}
 use Rattle.device.specs.declared.Stepped.{Stepped}
-use Rattle.device.specs.Registers.{withInterrupts}
+use Rattle.device.specs.Whole.{withInterrupts}
 use Rattle.events.specs.Numbers.{classOf, valueOf}
-use Rattle.device.specs.Events.{replied, irqOf, stepOf}
+use Rattle.device.specs.Whole.{irqOf}
+use Rattle.step.specs.Events.{replied, stepOf}
 use Rattle.tape.specs.Tapes.{records}
 use Rattle.answer.specs.Answers.{answerOf}
 use Rattle.tape.specs.Runs.{resultOf}

@@ -10,7 +10,7 @@ use borrow.Author.Tests.{eq-eqb}
 use Rattle.device.specs.declared.Device.{Device}
 use Rattle.events.specs.declared.Event.{Event}
 use Rattle.device.specs.declared.Stepped.{Stepped}
-use Rattle.device.specs.Events.{stepOf}
+use Rattle.step.specs.Events.{stepOf}
 use Rattle.image.specs.Image.{imageOf, deviceOf}
 use Rattle.record.specs.declared.Decoded.{Decoded}
 use Rattle.record.specs.Records.{recordBytes}

@@ -8,8 +8,8 @@ use Rattle.device.specs.declared.Device.{Device}
 use Rattle.events.specs.declared.Event.{Event}
 use Rattle.events.specs.declared.Event.the-variants.{Clocks}
 use Rattle.timers.specs.Clocks.{none, addTimeouts}
-use Rattle.device.specs.Clocks.{clockTimeouts, clockDevice, clocksDevice, timeoutsDevice}
-use Rattle.device.specs.Events.{stepOf}
+use Rattle.step.specs.Clocks.{clockTimeouts, clockDevice, clocksDevice, timeoutsDevice}
+use Rattle.step.specs.Events.{stepOf}
 use Rattle.answer.specs.Answers.{answerOf}
 use Rattle.tape.specs.Runs.{runOf, answersOf}
 use Rattle.demands.specs.Clocks.{NClocks, SingleClocks, timeoutsOf, SingleClocksCounts, ClocksJoin, ClocksJoinCounts, RunParts, AnswerParts, beforeSpan, whole, JoinedDevice, JoinedCounts, JoinedRun, CutAnswers, JoinedAnswers}

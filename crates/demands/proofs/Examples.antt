@@ -27,10 +27,12 @@ use Rattle.events.specs.declared.Answer.the-variants.{Data}
 use Rattle.lines.specs.Signals.{lineActive, inputActive, inputBecomes, inputCeases, muted, lineRaises, linesBelow, pulseEnds, signalRaises}
 use Rattle.device.specs.Signals.{counts, signalTimeouts, signalTimers, changeRaises, signalled}
 use Rattle.lines.specs.Registers.{lineWritten, withInput}
-use Rattle.device.specs.Clocks.{clocksDevice, timeoutsDevice}
-use Rattle.device.specs.Registers.{readOf, writeStep}
-use Rattle.device.specs.Events.{freshDevice, irqOf, stepOf}
-use Rattle.device.proofs.Clocks.{clocks-each}
+use Rattle.step.specs.Clocks.{clocksDevice, timeoutsDevice}
+use Rattle.device.specs.Whole.{readOf}
+use Rattle.step.specs.Events.{writeStep}
+use Rattle.device.specs.Whole.{freshDevice, irqOf}
+use Rattle.step.specs.Events.{stepOf}
+use Rattle.step.proofs.Clocks.{clocks-each}
 use Rattle.demands.specs.Examples.{P1, P2, Delays, P3, P4, P5, P6, P7, masked, unmasked, P8, P9, P10, P11, P12, B1, B2}
 use Rattle.bits.proofs.Bits.{halves}
 

@@ -4,7 +4,7 @@ use Rattle.bits.proofs.Bits.{halves}
 use Rattle.interrupts.specs.Interrupts.{interruptRule}
 use Rattle.timers.specs.Registers.{timersRule}
 use Rattle.timers.proofs.Rule.{all-settled}
-use Rattle.device.specs.Events.{imageRule}
+use Rattle.device.specs.Whole.{imageRule}
 use Rattle.image.specs.declared.Loaded.the-variants.{Accepted}
 use Rattle.image.specs.Image.{imageOf, loadOf}
 use Rattle.image.proofs.Loads.{read}

@@ -39,10 +39,11 @@ use Rattle.events.specs.declared.Event.{Event}
 use Rattle.events.specs.declared.Event.the-variants.{Reset, Read, Write, Level, Input, Clocks, Acknowledge, Raise}
 use Rattle.device.specs.declared.Device.{Device}
 use Rattle.device.specs.Signals.{timerOf, counts, signalTimers, changeRaises, signalled}
-use Rattle.device.specs.Clocks.{clocksDevice, timeoutsDevice}
-use Rattle.device.specs.Registers.{writeStep}
-use Rattle.device.specs.Events.{resetDevice, stepOf}
-use Rattle.device.proofs.Clocks.{spanTimers, clocks-each}
+use Rattle.step.specs.Clocks.{clocksDevice, timeoutsDevice}
+use Rattle.step.specs.Events.{writeStep}
+use Rattle.device.specs.Whole.{resetDevice}
+use Rattle.step.specs.Events.{stepOf}
+use Rattle.step.proofs.Clocks.{spanTimers, clocks-each}
 use Rattle.demands.specs.Rule.{Bytes}
 use Rattle.demands.specs.Parts.{Name, A, B, C, D, Part, gpdr, aer, ddr, levels, tai, tbi, vector, enabled, pending, service, mask, mode, reload, counter, position, output, timerNamed, partOf, byWrite, touched, among, AnEventChangesOnlyItsRow, PartsAreAll}
 

@@ -10,9 +10,9 @@ use Rattle.events.specs.declared.Register.the-variants.{OfLines, OfInterrupts, 
 use Rattle.events.specs.declared.Event.the-variants.{Reset, Read, Write, Level, Input, Clocks, Acknowledge, Raise}
 use Rattle.device.specs.declared.Device.{Device}
 use Rattle.device.specs.Signals.{signalled}
-use Rattle.device.specs.Registers.{writeStep}
-use Rattle.device.specs.Events.{stepOf}
-use Rattle.device.proofs.Clocks.{clocks-each}
+use Rattle.step.specs.Events.{writeStep}
+use Rattle.step.specs.Events.{stepOf}
+use Rattle.step.proofs.Clocks.{clocks-each}
 use Rattle.demands.specs.Raised.{RaisedAtOnce}
 
 -- no raise leaves the interrupts

@@ -17,10 +17,11 @@ use Rattle.events.specs.declared.Event.{Event}
 use Rattle.events.specs.declared.Event.the-variants.{Reset, Read, Write, Level, Input, Clocks, Acknowledge, Raise}
 use Rattle.device.specs.declared.Device.{Device}
 use Rattle.device.specs.Signals.{counts, signalTimers, signalled}
-use Rattle.device.specs.Clocks.{clocksDevice}
-use Rattle.device.specs.Registers.{writeStep}
-use Rattle.device.specs.Events.{resetDevice, stepOf, imageRule}
-use Rattle.device.proofs.Clocks.{clocks-each}
+use Rattle.step.specs.Clocks.{clocksDevice}
+use Rattle.step.specs.Events.{writeStep}
+use Rattle.device.specs.Whole.{resetDevice, imageRule}
+use Rattle.step.specs.Events.{stepOf}
+use Rattle.step.proofs.Clocks.{clocks-each}
 use Rattle.demands.specs.Rule.{Bytes, EveryEventKeepsTheRule}
 
 -- the rule's parts; the lines have none

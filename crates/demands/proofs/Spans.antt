@@ -14,8 +14,9 @@ use Rattle.events.specs.declared.Event.the-variants.{Clocks}
 use Rattle.events.specs.declared.Answer.{Answer}
 use Rattle.device.specs.declared.Stepped.{Stepped}
 use Rattle.timers.specs.Clocks.{none}
-use Rattle.device.specs.Clocks.{clockTimeouts, clockDevice, timeoutsDevice}
-use Rattle.device.specs.Events.{irqOf, stepOf, shownOutputs}
+use Rattle.step.specs.Clocks.{clockTimeouts, clockDevice, timeoutsDevice}
+use Rattle.device.specs.Whole.{irqOf, shownOutputs}
+use Rattle.step.specs.Events.{stepOf}
 use Rattle.bits.specs.Bits.{bitValue}
 use Rattle.events.specs.Numbers.{classOf, valueOf}
 use Rattle.bits.specs.Bytes.{byte}

@@ -5,7 +5,7 @@ use mathlib.Core.Bool.{true}
 use mathlib.Core.List.{List, [], _∷_}
 use Rattle.device.specs.declared.Device.{Device}
 use Rattle.events.specs.declared.Event.{Event}
-use Rattle.device.specs.Events.{freshDevice, imageRule}
+use Rattle.device.specs.Whole.{freshDevice, imageRule}
 use Rattle.image.specs.declared.Loaded.the-variants.{Accepted}
 use Rattle.image.specs.Image.{imageOf, deviceOf, loadOf}
 use Rattle.tape.specs.Tapes.{eventsOf}

@@ -9,7 +9,8 @@ use Rattle.interrupts.specs.Interrupts as I
 use Rattle.device.specs.declared.Device.{Device}
 use Rattle.events.specs.declared.Event.the-variants.{Acknowledge}
 use Rattle.events.specs.declared.Answer.the-variants.{Vector}
-use Rattle.device.specs.Events.{irqOf, stepOf}
+use Rattle.device.specs.Whole.{irqOf}
+use Rattle.step.specs.Events.{stepOf}
 use Rattle.tape.specs.Tapes.{records}
 use Rattle.tape.specs.Runs.{resultOf}
 use Rattle.demands.specs.Refusals.{RecordMeans}

@@ -11,8 +11,8 @@ use Rattle.events.specs.declared.Event.the-variants.{Clocks}
 use Rattle.device.specs.declared.Stepped.{Stepped}
 use Rattle.events.specs.declared.Answer.the-variants.{Done}
 use Rattle.timers.specs.Clocks.{none, addTimeouts}
-use Rattle.device.specs.Clocks.{clocksDevice, timeoutsDevice}
-use Rattle.device.specs.Events.{stepOf}
+use Rattle.step.specs.Clocks.{clocksDevice, timeoutsDevice}
+use Rattle.step.specs.Events.{stepOf}
 use Rattle.answer.specs.Answers.{answerOf}
 use Rattle.tape.specs.Runs.{runOf, answersOf}
 

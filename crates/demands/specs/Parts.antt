@@ -19,7 +19,7 @@ use Rattle.events.specs.declared.Register.the-variants.{OfLines, OfInterrupts, 
 use Rattle.events.specs.declared.Event.{Event}
 use Rattle.events.specs.declared.Event.the-variants.{Reset, Read, Write, Level, Input, Clocks, Acknowledge, Raise}
 use Rattle.device.specs.declared.Device.{Device}
-use Rattle.device.specs.Events.{stepOf}
+use Rattle.step.specs.Events.{stepOf}
 use Rattle.demands.specs.Rule.{Bytes}
 
 -- ---- the parts of a device: each register by itself, A's and B's apart, and each timer's fields

@@ -11,8 +11,8 @@ use Rattle.events.specs.declared.Event.{Event}
 use Rattle.events.specs.declared.Event.the-variants.{Reset, Read, Write, Level, Input, Clocks, Acknowledge, Raise}
 use Rattle.device.specs.declared.Device.{Device}
 use Rattle.device.specs.Signals.{changeRaises}
-use Rattle.device.specs.Clocks.{timeoutsDevice}
-use Rattle.device.specs.Events.{stepOf}
+use Rattle.step.specs.Clocks.{timeoutsDevice}
+use Rattle.step.specs.Events.{stepOf}
 
 -- "A DDR or control write never raises.", nor does a reset, a read or an acknowledge
 abbrev pub raisesOf : Device → Event → List Raises

@@ -8,7 +8,7 @@ use mathlib.Core.Logic.{_⊎_, _↔_}
 use lib.ListN.{length, drop}
 use Rattle.events.specs.declared.Event.{Event}
 use Rattle.events.specs.declared.Refusal.the-variants.{TapeLength}
-use Rattle.device.specs.Events.{imageRule}
+use Rattle.device.specs.Whole.{imageRule}
 use Rattle.image.specs.declared.Loaded.the-variants.{Accepted}
 use Rattle.image.specs.Image.{imageBytes, imageOf, deviceOf, unusedZero, loadOf}
 use Rattle.bits.specs.Bytes.{byte, number}

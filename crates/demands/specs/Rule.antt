@@ -5,7 +5,8 @@ use mathlib.Core.Bool.{true}
 use Rattle.device.specs.declared.Device.{Device}
 use Rattle.events.specs.declared.Event.{Event}
 use Rattle.events.specs.declared.Event.the-variants.{Reset, Read, Write, Level, Input, Clocks, Acknowledge, Raise}
-use Rattle.device.specs.Events.{stepOf, imageRule}
+use Rattle.device.specs.Whole.{imageRule}
+use Rattle.step.specs.Events.{stepOf}
 
 -- what an event writes is a byte, as its type says
 abbrev pub Bytes : Event → Type 0

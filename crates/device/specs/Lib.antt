@@ -1,6 +1,3 @@
--- The rules of the whole device, a file for each of the paper's chapters.
+-- The device as a whole, and what a change of its signals does.
+pub mod Whole
 pub mod Signals
-pub mod Clocks
-pub mod Registers
-pub mod Events
-pub mod Private

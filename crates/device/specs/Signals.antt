@@ -7,12 +7,14 @@ use Rattle.channels.specs.Raises.{Raises, raisedBy}
 use Rattle.interrupts.specs.Interrupts.{raised}
 use Rattle.timers.specs.declared.Timers.{Timers}
 use Rattle.timers.specs.declared.Timeouts.{Timeouts}
-use Rattle.timers.specs.Clocks.{timeoutRaises, pulseTimers, pulseTimeouts}
+use Rattle.timers.specs.Clocks.{timeoutRaises, pulseTimers, pulseTimeouts, none}
 use Rattle.lines.specs.declared.Lines.{Lines}
 use Rattle.lines.specs.declared.TimerInput.{TimerInput}
 use Rattle.lines.specs.declared.TimerInput.the-variants.{Tai, Tbi}
 use Rattle.lines.specs.Signals.{inputBecomes, signalRaises, ofInputs}
 use Rattle.device.specs.declared.Device.{Device}
+use Rattle.events.specs.declared.Answer.the-variants.{Done}
+use Rattle.device.specs.declared.Stepped.{Stepped}
 
 -- TAI is timer A's input, TBI timer B's
 abbrev pub timerOf : TimerInput → Timers → Timer
@@ -41,3 +43,12 @@ changeRaises after d = signalRaises (measuring (d .timers)) (d .lines) after ++ 
 -- the signals become those of `after`
 unfoldable pub signalled : Lines → Device → Device
 signalled after d = record { lines = after; interrupts = raised (raisedBy (changeRaises after d)) (d .interrupts); timers = signalTimers after d }
+
+-- ---- steps without a value
+-- an event whose whole work is to leave this device
+abbrev pub done : Device → Stepped
+done d = record { device = d; answer = Done; timeouts = none }
+
+-- an event that makes the signals those of `after`
+abbrev pub signalStep : Lines → Device → Stepped
+signalStep after d = record { device = signalled after d; answer = Done; timeouts = signalTimeouts after d }

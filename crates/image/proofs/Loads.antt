@@ -10,7 +10,7 @@ use borrow.Author.Tests.{eqb-true}
 use Rattle.device.specs.declared.Device.{Device}
 use Rattle.events.specs.declared.Refusal.{Refusal}
 use Rattle.events.specs.declared.Refusal.the-variants.{ImageLength, ImageMark, ImageRule}
-use Rattle.device.specs.Events.{imageRule}
+use Rattle.device.specs.Whole.{imageRule}
 use Rattle.image.specs.declared.Loaded.the-variants.{Accepted, Refused}
 use Rattle.bits.specs.Bytes.{byte}
 use Rattle.image.specs.Image.{imageBytes, imageMark0, imageMark1, deviceOf, unusedZero, loadOf}

@@ -15,7 +15,7 @@ use Rattle.timers.specs.Registers.{modeC, modeD, tcdcrOf, outputsOf}
 use Rattle.lines.specs.declared.Lines.{Lines}
 use Rattle.events.specs.declared.Refusal.the-variants.{ImageLength, ImageMark, ImageRule}
 use Rattle.device.specs.declared.Device.{Device}
-use Rattle.device.specs.Events.{imageRule}
+use Rattle.device.specs.Whole.{imageRule}
 use Rattle.image.specs.declared.Loaded.{Loaded}
 use Rattle.image.specs.declared.Loaded.the-variants.{Accepted, Refused}
 use Rattle.image.specs.declared.Saved.{Saved}

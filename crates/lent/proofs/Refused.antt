@@ -6,11 +6,13 @@ use Rattle.device.specs.declared.Device.{Device}
 use Rattle.events.specs.declared.Event.{Event}
 use Rattle.events.specs.declared.Refusal.{Refusal}
 use Rattle.events.specs.declared.Refusal.the-variants.{ImageRule, Operand}
-use Rattle.device.specs.declared.Outcome.the-variants.{Answered, Refused}
-use Rattle.device.specs.declared.Handled.{Handled}
+use Rattle.lent.specs.declared.Outcome.the-variants.{Answered, Refused}
+use Rattle.lent.specs.declared.Handled.{Handled}
 use Rattle.events.specs.Numbers.{numberOf}
 use Rattle.events.specs.Ranges.{inRange}
-use Rattle.device.specs.Events.{stepOf, imageRule, handledOf}
+use Rattle.device.specs.Whole.{imageRule}
+use Rattle.step.specs.Events.{stepOf}
+use Rattle.lent.specs.Handling.{handledOf}
 
 pub breaks-rule : (d : Device) (e : Event) → imageRule d ≡ false → handledOf d e ≡ record { device = d; outcome = Refused ImageRule }
 unfolding handledOf

@@ -4,16 +4,16 @@ use denote.Struct.Laws as LL
 use denote.Enum.Laws as LE
 use Rattle.device.specs.declared.Device.{Device}
 use Rattle.events.specs.declared.Event.{Event}
-use Rattle.device.specs.declared.Outcome.{Outcome}
-use Rattle.device.specs.declared.Handled.{Handled}
+use Rattle.lent.specs.declared.Outcome.{Outcome}
+use Rattle.lent.specs.declared.Handled.{Handled}
 use Rattle.device.proofs.Device as D
 use Rattle.device.proofs.Device.Laws as D′
 use Rattle.events.proofs.Event as E
 use Rattle.events.proofs.Event.Laws as E′
-use Rattle.device.proofs.Outcome as O
-use Rattle.device.proofs.Outcome.Laws as O′
-use Rattle.device.proofs.Handled as R
-use Rattle.device.proofs.Handled.Laws as R′
+use Rattle.lent.proofs.Outcome as O
+use Rattle.lent.proofs.Outcome.Laws as O′
+use Rattle.lent.proofs.Handled as R
+use Rattle.lent.proofs.Handled.Laws as R′
 use Rattle.lent.proofs.Data.{Data, Laws, Two, TwoLaws}
 
 abbrev pub device : Data

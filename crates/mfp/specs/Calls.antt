@@ -6,7 +6,7 @@ use lib.Dec.{eqb}
 use lib.ListN.{length}
 use Rattle.events.specs.declared.Refusal.the-variants.{ImageLength}
 use Rattle.events.specs.Numbers.{numberOf}
-use Rattle.device.specs.Events.{freshDevice}
+use Rattle.device.specs.Whole.{freshDevice}
 use Rattle.image.specs.Image.{imageBytes, storedOver}
 
 -- 1: "image buffer is not 32 bytes", else 0

@@ -9,7 +9,7 @@ use Rattle.events.specs.declared.Event.{Event}
 use Rattle.events.specs.declared.Refusal.{Refusal}
 use Rattle.events.specs.declared.Refusal.the-variants.{TapeLength, AnswerLength}
 use Rattle.events.specs.Numbers.{numberOf}
-use Rattle.device.specs.Events.{stepOf}
+use Rattle.step.specs.Events.{stepOf}
 use Rattle.image.specs.Image.{imageOf, deviceOf, loadOf}
 use Rattle.image.specs.declared.Loaded.{Loaded}
 use Rattle.image.specs.declared.Loaded.the-variants.{Accepted, Refused}

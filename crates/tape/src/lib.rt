@@ -212,7 +212,7 @@ fn run_records(d: Device, tape: &[u8], answers: &mut [u8], n: usize) -> Device
     let mut i = 0;
     while i < n {
         let e = event_at(tape, i * RECORD_BYTES);
-        let s = current.step(e);
+        let s = step::step(current, e);
         put_answer(s, answers, i * ANSWER_BYTES);
         let next = s.device;
         let l = next.lines;

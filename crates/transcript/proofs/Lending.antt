@@ -10,9 +10,11 @@ use Rattle.events.specs.declared.Refusal.{Refusal}
 use Rattle.events.specs.Ranges.{inRange}
 use Rattle.device.specs.declared.Device.{Device}
 use Rattle.device.specs.declared.Stepped.{Stepped}
-use Rattle.device.specs.declared.Outcome.the-variants.{Answered, Refused}
-use Rattle.device.specs.declared.Handled.{Handled}
-use Rattle.device.specs.Events.{stepOf, imageRule, handledOf}
+use Rattle.lent.specs.declared.Outcome.the-variants.{Answered, Refused}
+use Rattle.lent.specs.declared.Handled.{Handled}
+use Rattle.device.specs.Whole.{imageRule}
+use Rattle.step.specs.Events.{stepOf}
+use Rattle.lent.specs.Handling.{handledOf}
 
 module _ (d : Device) (e : Event) (rule : imageRule d ≡ true) (range : inRange e ≡ true) (h : Handled) (is : h ≡ handledOf d e) where
   handled : handledOf d e ≡ record { device = stepOf d e .device; outcome = Answered (stepOf d e .answer) (stepOf d e .timeouts) }

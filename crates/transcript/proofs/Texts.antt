@@ -8,7 +8,7 @@ use lib.ListN.{length, drop}
 use borrow.Author.Tests.{lt-ltb, le-ltb, le-leb, eq-eqb, ne-eqb}
 use Rattle.bits.proofs.Bits.{joined}
 use Rattle.device.specs.declared.Device.{Device}
-use Rattle.device.specs.Events.{freshDevice, imageRule}
+use Rattle.device.specs.Whole.{freshDevice, imageRule}
 use Rattle.answer.specs.Answers.{answerBytes}
 use Rattle.text.specs.Lines.{lineMost, refusedLine, written, writtenLength, Counts}
 use Rattle.text.proofs.Whole.{counts, length-long}

@@ -7,7 +7,8 @@ use lib.ListN.{length, drop}
 use Rattle.events.specs.declared.Event.{Event}
 use Rattle.device.specs.declared.Device.{Device}
 use Rattle.device.specs.declared.Stepped.{Stepped}
-use Rattle.device.specs.Events.{stepOf, irqOf, shownOutputs}
+use Rattle.device.specs.Whole.{irqOf, shownOutputs}
+use Rattle.step.specs.Events.{stepOf}
 use Rattle.record.specs.Records.{recordBytes}
 use Rattle.answer.specs.Answers.{answerBytes}
 use Rattle.text.specs.Lines.{lineMost, lineOf, refusedLine}

@@ -3,10 +3,10 @@
 // shorter one stays as it was.
 use answer::ANSWER_BYTES;
 use device::Device;
-use device::Outcome;
 use device::Stepped;
 use events::Answer;
 use events::Event;
+use lent::Outcome;
 use record::RECORD_BYTES;
 use tape::Found;
 use tape::TAPE_MOST;
@@ -18,7 +18,8 @@ ghost use mathlib.Core.List.{_++_};
 ghost use Prim.Native.Nat.{_+_, _≤_, _<_};
 ghost use lib.ListN.{length, take, drop};
 ghost use Rattle.events.specs.Ranges.{inRange};
-ghost use Rattle.device.specs.Events.{freshDevice, stepOf, imageRule};
+ghost use Rattle.device.specs.Whole.{freshDevice, imageRule};
+ghost use Rattle.step.specs.Events.{stepOf};
 ghost use Rattle.text.specs.Lines.{lineMost, Counts};
 ghost use Rattle.tape.specs.declared.Checked.the-variants.{Fine};
 ghost use Rattle.tape.specs.Tapes.{fitting, records, firstBad, eventsOf};
@@ -64,7 +65,7 @@ fn step(d: Device, e: Event, lending: bool) -> Stepped
     if lending {
         return lent_step(d, e);
     }
-    d.step(e)
+    step::step(d, e)
 }
 
 // Puts the line of record i at index `at`, and returns the index after it.

@@ -8,7 +8,7 @@ use Rattle.interrupts.specs.declared.Interrupts.{Interrupts}
 use Rattle.lines.specs.declared.Lines.{Lines}
 use Rattle.timers.specs.declared.Timers.{Timers}
 use Rattle.device.specs.declared.Device.{Device}
-use Rattle.device.specs.Events.{imageRule}
+use Rattle.device.specs.Whole.{imageRule}
 use Rattle.image.specs.declared.Loaded.the-variants.{Accepted}
 use Rattle.image.specs.Image.{linesFrom, interruptsFrom, timersFrom, deviceOf, loadOf}
 use Rattle.image.proofs.load.Statement.{statement}

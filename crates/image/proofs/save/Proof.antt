@@ -9,7 +9,7 @@ use lib.Dec.{eqb}
 use borrow.Author.Tests.{eq-eqb, ne-eqb, not-true, not-false}
 use Rattle.device.specs.declared.Device.{Device}
 use Rattle.events.specs.declared.Refusal.the-variants.{ImageLength, ImageRule}
-use Rattle.device.specs.Events.{imageRule}
+use Rattle.device.specs.Whole.{imageRule}
 use Rattle.image.specs.declared.Saved.the-variants.{Written, NotWritten}
 use Rattle.image.specs.Image.{storedOver, savedOf, savedOver}
 use Rattle.image.proofs.save.Statement.{statement}

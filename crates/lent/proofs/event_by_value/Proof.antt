@@ -14,7 +14,7 @@ use types.Kit.{Given}
 use denote.Triple.Statement.{Triple}
 use denote.Triple.Spec.{Meets, tripleOf}
 use denote.Triple.Table.{entered, cited}
-use Rattle.device.specs.Events.{handledOf}
+use Rattle.lent.specs.Handling.{handledOf}
 use Rattle.lent.proofs.Values.{device, event, outcome, handled, device-laws, event-laws, outcome-laws, handled-laws}
 use Rattle.lent.proofs.event as callee
 use Rattle.lent.proofs.event.Symbol as callee-def

@@ -9,7 +9,7 @@ use lib.ListN.{length, take, drop}
 use Rattle.device.specs.declared.Device.{Device}
 use Rattle.events.specs.declared.Event.{Event}
 use Rattle.device.specs.declared.Stepped.{Stepped}
-use Rattle.device.specs.Events.{stepOf}
+use Rattle.step.specs.Events.{stepOf}
 use Rattle.record.specs.declared.Decoded.the-variants.{Valid}
 use Rattle.record.specs.Records.{recordBytes}
 use Rattle.tape.specs.Tapes.{decoded}

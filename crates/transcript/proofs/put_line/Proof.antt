@@ -8,7 +8,7 @@ use borrow.Author.Needs.{needs}
 use borrow.Rule.Slice.PartMut.{midOf, putMid}
 use lib.ListN.{length, take, drop}
 use Rattle.device.specs.declared.Stepped.{Stepped}
-use Rattle.device.specs.Events.{irqOf, shownOutputs}
+use Rattle.device.specs.Whole.{irqOf, shownOutputs}
 use Rattle.text.specs.Lines.{lineMost, lineOf, written, writtenLength}
 use Rattle.transcript.specs.Transcript.{stepLine}
 use Rattle.transcript.proofs.Places.{line-long, line-fits, laid}

@@ -13,7 +13,7 @@ use Rattle.events.specs.declared.Event.{Event}
 use Rattle.events.specs.Ranges.{inRange}
 use Rattle.device.specs.declared.Device.{Device}
 use Rattle.device.specs.declared.Stepped.{Stepped}
-use Rattle.device.specs.Events.{stepOf}
+use Rattle.step.specs.Events.{stepOf}
 use Rattle.record.specs.declared.Decoded.the-variants.{Valid}
 use Rattle.record.specs.Records.{recordBytes}
 use Rattle.record.proofs.Verdicts.{Holds}

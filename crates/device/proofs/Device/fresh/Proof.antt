@@ -1,6 +1,6 @@
 -- `Device::fresh` meets its contract. Assumes nothing.
 use borrow.Author.Needs.{needs}
-use Rattle.device.specs.Events.{freshDevice}
+use Rattle.device.specs.Whole.{freshDevice}
 use Rattle.device.proofs.Device.fresh.Statement.{statement}
 use Rattle.device.proofs.Device.fresh.Tie as tie
 

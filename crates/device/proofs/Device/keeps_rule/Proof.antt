@@ -1,7 +1,7 @@
 -- `Device::keeps_rule` meets its contract. Assumes nothing.
 use mathlib.Core.Path.{_∙_}
 use borrow.Author.Needs.{needs}
-use Rattle.device.specs.Events.{imageRule}
+use Rattle.device.specs.Whole.{imageRule}
 use mathlib.Core.Bool.{_&&_}
 use Rattle.device.proofs.Device.keeps_rule.Statement.{statement}
 use Rattle.device.proofs.Device.keeps_rule.Tie as tie

@@ -1,6 +1,6 @@
 -- `Device::outputs` meets its contract. Assumes nothing.
 use borrow.Author.Needs.{needs}
-use Rattle.device.specs.Events.{shownOutputs}
+use Rattle.device.specs.Whole.{shownOutputs}
 use Rattle.device.proofs.Device.outputs.Statement.{statement}
 use Rattle.device.proofs.Device.outputs.Tie as tie
 

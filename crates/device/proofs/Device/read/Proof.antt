@@ -1,7 +1,7 @@
 -- `Device::read` meets its contract, part by part. Assumes nothing.
 use mathlib.Core.Path.{sym, ap, _∙_}
 use borrow.Author.Needs.{needs}
-use Rattle.device.specs.Registers.{readOf}
+use Rattle.device.specs.Whole.{readOf}
 use Rattle.device.proofs.Device.read.Statement.{statement}
 use Rattle.device.proofs.Device.read.Tie as tie
 

@@ -1,6 +1,6 @@
 -- `Device::reset` meets its contract. Assumes nothing.
 use borrow.Author.Needs.{needs}
-use Rattle.device.specs.Events.{resetDevice}
+use Rattle.device.specs.Whole.{resetDevice}
 use Rattle.device.proofs.Device.reset.Statement.{statement}
 use Rattle.device.proofs.Device.reset.Tie as tie
 

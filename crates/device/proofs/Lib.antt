@@ -1,2 +1,0 @@
--- The laws of the device that its functions and its callers use.
-pub mod Clocks

@@ -1,0 +1,2 @@
+-- An event of a device record, or its refusal.
+pub mod Handling

@@ -5,7 +5,8 @@ use mathlib.Core.Path.{_≡_}
 use mathlib.Core.Bool.{Bool, true, false}
 use mathlib.Core.List.{List}
 use Rattle.channels.specs.Channels.{has}
-use Rattle.interrupts.specs.Interrupts as I
+use Rattle.interrupts.specs.Interrupts.{S}
+use Rattle.requests.specs.Requests as R
 use Rattle.device.specs.declared.Device.{Device}
 use Rattle.events.specs.declared.Event.the-variants.{Acknowledge}
 use Rattle.events.specs.declared.Answer.the-variants.{Vector}
@@ -20,15 +21,15 @@ use Rattle.demands.specs.Tapes.{deviceBefore, answerTo, classAt, valueAt
 pub record Gave (before after : Device) (c v : ℕ) : Type 0 where
   -- "the highest requesting channel c" of the sixteen
   pub channel : c < 16
-  pub requests : I.requests (before .interrupts) c ≡ true
-  pub highest : (k : ℕ) → c < k → k < 16 → I.requests (before .interrupts) k ≡ false
+  pub requests : R.requests (before .interrupts) c ≡ true
+  pub highest : (k : ℕ) → c < k → k < 16 → R.requests (before .interrupts) k ≡ false
   -- "gives the vector (VR bits 7 to 4) × 16 + c"
   pub gives : v ≡ before .interrupts .vector / 16 * 16 + c
   -- "its pending bit is cleared", and that of every other channel is as it was
   pub cleared : has (after .interrupts .pending) c ≡ false
   pub pending : (k : ℕ) → k < 16 → (k ≡ c → ⊥) → has (after .interrupts .pending) k ≡ has (before .interrupts .pending) k
   -- "and its in-service bit is set if S is 1", and that of every other channel is as it was
-  pub served : has (after .interrupts .service) c ≡ I.S (before .interrupts .vector)
+  pub served : has (after .interrupts .service) c ≡ S (before .interrupts .vector)
   pub service : (k : ℕ) → (k ≡ c → ⊥) → has (after .interrupts .service) k ≡ has (before .interrupts .service) k
   -- all else stays
   pub enabled : after .interrupts .enabled ≡ before .interrupts .enabled

@@ -18,6 +18,7 @@ use Rattle.image.specs.Image.{imageBytes, imageOf, deviceOf, loadOf, storedOver
 use Rattle.tape.specs.Runs.{resultOf, imageAfter, answersAfter}
 use Rattle.mfp.specs.Calls.{freshResult, freshOver}
 use Rattle.demands.specs.Refusals.{Given, Ends}
+use Rattle.demands.proofs.ByteRule.{byte-rule-is-record-rule}
 use Rattle.demands.proofs.Refusals.{each-call-has-its-row, answered-or-refused, good-image-loads}
 use Rattle.demands.proofs.Images.{load-of-save, save-of-load}
 use Rattle.demands.proofs.Accepted.{fresh-accepted, empty-tape-answered}
@@ -58,7 +59,7 @@ unfolding savedOf
 loaded-and-saved d b b′ s f e q g = record {
   written = λ h.
       let same : d ≡ deviceOf b = accepted-one (sym e ∙ good-image-loads b .0 h) in
-      q ∙ rw (same, eq-eqb _ _ (h .long), h .ruled .1) refl;
+      q ∙ rw (same, eq-eqb _ _ (h .long), byte-rule-is-record-rule b .0 (h .ruled) .1) refl;
   same = saved-same d b b′ f e g;
 }
 

@@ -21,6 +21,7 @@ use Rattle.tape.specs.Runs.{runOf, answersOf, resultOf, imageAfter, answersAfte
 use Rattle.demands.specs.Accepted.{AllBytes, ATapeWritesBytes, ARunKeepsTheRule, AnAnsweredCallLeavesAnAcceptedImage, FreshAccepted, EmptyTapeAnswered}
 use Rattle.demands.proofs.Rule.{every-event-keeps-the-rule}
 use Rattle.demands.proofs.Images.{load-of-save, save-of-load}
+use Rattle.demands.proofs.ByteRule.{byte-rule-is-record-rule}
 use Rattle.demands.proofs.Records.{RecordRow, record-row, bytes-of}
 use Rattle.demands.proofs.Refusals.{loaded-is-good, good-image-loads, an-answered-call-passed-all, passed-all-is-answered}
 
@@ -47,7 +48,7 @@ unfolding imageAfter
 an-answered-call-leaves-an-accepted-image image tape answers ok =
     rw (eq-eqb _ _ ok)
     (load-of-save (runOf (deviceOf image) (eventsOf tape))
-    (a-run-keeps-the-rule (deviceOf image) (eventsOf tape) (a-tape-writes-bytes tape) (an-answered-call-passed-all image tape answers ok .checks .good-image .ruled .1)))
+    (a-run-keeps-the-rule (deviceOf image) (eventsOf tape) (a-tape-writes-bytes tape) (byte-rule-is-record-rule image .0 (an-answered-call-passed-all image tape answers ok .checks .good-image .ruled) .1)))
 
 -- ---- the least image and the least tape
 pub fresh-keeps-the-rule : imageRule freshDevice ≡ true

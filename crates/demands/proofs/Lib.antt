@@ -1,10 +1,11 @@
--- The proofs of the statements in specs/, a file for each of the same name (of a record looked up, Found), and what they rest on: Decides, Records, TapeParts, Answers, Numbers, Spans.
+-- The proofs of the statements in specs/, a file for each of the same name (of a record looked up, Found), and what they rest on: Decides, ByteRule, Records, TapeParts, Answers, Numbers, Spans.
 pub mod Decides
 pub mod Examples
 pub mod Channels
 pub mod Rule
 pub mod Clocks
 pub mod Images
+pub mod ByteRule
 pub mod Records
 pub mod Refusals
 pub mod Found

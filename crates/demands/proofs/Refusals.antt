@@ -15,6 +15,7 @@ use Rattle.device.specs.Whole.{imageRule}
 use Rattle.image.specs.declared.Loaded.the-variants.{Accepted, Refused}
 use Rattle.image.specs.Image.{imageBytes, deviceOf, unusedZero, loadOf}
 use Rattle.bits.specs.Bytes.{byte}
+use Rattle.bits.proofs.Bits.{halves, joined}
 use Rattle.image.proofs.Loads.{read}
 use Rattle.record.specs.declared.Decoded.{Decoded}
 use Rattle.record.specs.declared.Decoded.the-variants.{Valid, Invalid}
@@ -28,6 +29,7 @@ use Rattle.tape.proofs.Checks.{code-above, uneven, too-long, bad, roomy, crampe
 use Rattle.tape.proofs.Results.{by-image, by-tape, refused}
 use Rattle.demands.specs.Refusals.{ImageMarked, ImageRuled, GoodImage, GoodRecord, GoodBefore, ChecksReach, Given, image-length-wrong, image-mark-wrong, image-rule-broken, tape-length-wrong, record-mark-wrong, kind-above-7, operand-out-of-range, serial-register, answers-too-short, not-refused, EachCallHasItsRow, NoOtherRow, Ends, with-answers, with-refusal, AnsweredOrRefused, GoodImageLoads}
 use Rattle.demands.proofs.Decides.{Decides, equal-decided, both-decided, not-passed, not-held}
+use Rattle.demands.proofs.ByteRule.{byte-rule-is-record-rule}
 use Rattle.demands.proofs.Records.{RecordRow, refuses-mark, past-mark, refuses-kind, refuses-operand, refuses-serial, record-row, good-record-has-event, meaning-is-good, record-mark-refused, kind-refused, operand-refused, serial-refused}
 
 -- ---- an image
@@ -36,7 +38,7 @@ module _ (image : List ℕ) where
   image-mark-decided = both-decided _ _ (equal-decided _ _) (equal-decided _ _)
 
   image-rule-decided : Decides (unusedZero image && imageRule (deviceOf image)) (ImageRuled image)
-  image-rule-decided = both-decided _ _ (λ e. e, λ e. e) (λ e. e, λ e. e)
+  image-rule-decided = (λ e. byte-rule-is-record-rule image .1 (halves _ _ e), λ r. let t = byte-rule-is-record-rule image .0 r in joined _ _ (t .0) (t .1))
 
   image-length-refused : (length image ≡ imageBytes → ⊥) → loadOf image ≡ Refused ImageLength
   unfolding loadOf
@@ -56,7 +58,7 @@ module _ (image : List ℕ) where
   loads g = rw (eq-eqb _ _ (g .long), image-mark-decided .1 (g .marked), image-rule-decided .1 (g .ruled)) refl
 
   pub loaded-is-good : (d : Device) → loadOf image ≡ Accepted d → GoodImage image
-  loaded-is-good d e = let r = read image d e in record { long = r .whole; marked = (r .first, r .second); ruled = (r .unused, r .ruled) }
+  loaded-is-good d e = let r = read image d e in record { long = r .whole; marked = (r .first, r .second); ruled = byte-rule-is-record-rule image .1 (r .unused, r .ruled) }
 
 pub good-image-loads : GoodImageLoads
 good-image-loads image = (loads image, loaded-is-good image (deviceOf image))

@@ -1,11 +1,13 @@
 -- Demand 1: "Every image, tape of events and answer buffer, good or broken, gets either its answer or one of nine numbered refusals, given under the conditions in document 01 and no others [..] A refused call leaves the lent image and answer buffer as they came."
--- `Given` is the table of document 01, a row a constructor. Every call has its row (`EachCallHasItsRow`) and no other (`NoOtherRow`). Proved in proofs/Refusals.antt, `GoodRecordHasEvent` in proofs/Records.antt.
-use Prim.Native.Nat.{ℕ, _+_, _*_, _%_, _≤_, _<_}
+-- `Given` is the table of document 01, a row a constructor. Every call has its row (`EachCallHasItsRow`) and no other (`NoOtherRow`). Proved in proofs/Refusals.antt, `ByteRuleIsRecordRule` in proofs/ByteRule.antt, `GoodRecordHasEvent` in proofs/Records.antt.
+use Prim.Native.Nat.{ℕ, _+_, _*_, _/_, _%_, _≤_, _<_}
 use mathlib.Core.Path.{_≡_}
 use mathlib.Core.Bool.{true}
 use mathlib.Core.List.{List, _++_}
 use mathlib.Core.Logic.{_⊎_, _↔_}
+use lib.Bits.{bitAnd}
 use lib.ListN.{length, drop}
+use Rattle.timer.specs.Timers.{divisor}
 use Rattle.events.specs.declared.Event.{Event}
 use Rattle.events.specs.declared.Refusal.the-variants.{TapeLength}
 use Rattle.device.specs.Whole.{imageRule}
@@ -24,9 +26,35 @@ use Rattle.tape.specs.Runs.{runOf, answersOf, resultOf, imageAfter, answersAfte
 abbrev pub ImageMarked : List ℕ → Type 0
 ImageMarked image = (byte image 0 ≡ 0x4D) × (byte image 1 ≡ 0x31)
 
--- "Image rule": of the bits that no device record holds, and of the record
-abbrev pub ImageRuled : List ℕ → Type 0
-ImageRuled image = (unusedZero image ≡ true) × (imageRule (deviceOf image) ≡ true)
+-- two registers, A at byte k and B after it, as one number: "Register A holds channels 15 to 8 in bits 7 to 0, register B channels 7 to 0."
+abbrev pub pairAt : List ℕ → ℕ → ℕ
+pairAt image k = byte image k * 256 + byte image (k + 1)
+
+-- a mode and a position: "a position below its divisor, and 0 in modes 0 and 8"; these two have divisor 0, which nothing is below
+pub data PositionRuled : ℕ → ℕ → Type 0 where
+  below-divisor : {mode position : ℕ} → position < divisor mode → PositionRuled mode position
+  in-mode-0 : PositionRuled 0 0
+  in-mode-8 : PositionRuled 8 0
+
+-- "Image rule", over the bytes, in the paper's order
+pub record ImageRuled (image : List ℕ) : Type 0 where
+  -- "modes A and B at most 15": "14, 15 modes A, B"
+  pub mode-a : byte image 14 ≤ 15
+  pub mode-b : byte image 15 ≤ 15
+  -- "unused bits of 13, 16, 29, 31 zero": of VR bits 2 to 0, of TCDCR 7 and 3, of the outputs those above 3, of TAI and TBI those above 1
+  pub unused-13 : byte image 13 % 8 ≡ 0
+  pub unused-16 : (byte image 16 < 128) × (byte image 16 / 8 % 2 ≡ 0)
+  pub unused-29 : byte image 29 < 16
+  pub unused-31 : byte image 31 < 4
+  -- "pending only where enabled": IPRA, IPRB are bytes 7, 8, and IERA, IERB bytes 5, 6
+  pub pending-enabled : bitAnd (pairAt image 7) (pairAt image 5) ≡ pairAt image 7
+  -- "in-service all zero where S is 0": S is bit 3 of VR, and ISRA, ISRB are bytes 9, 10
+  pub service-zero : byte image 13 / 8 % 2 ≡ 0 → (byte image 9 ≡ 0) × (byte image 10 ≡ 0)
+  -- "25–28 positions"; of TCDCR "bits 6 to 4 are C's mode, 2 to 0 D's"
+  pub position-a : PositionRuled (byte image 14) (byte image 25)
+  pub position-b : PositionRuled (byte image 15) (byte image 26)
+  pub position-c : PositionRuled (byte image 16 / 16 % 8) (byte image 27)
+  pub position-d : PositionRuled (byte image 16 % 8) (byte image 28)
 
 -- an image that 1 to 3 do not refuse
 pub record GoodImage (image : List ℕ) : Type 0 where
@@ -138,6 +166,10 @@ abbrev pub AnsweredOrRefused : Type 0
 AnsweredOrRefused = (image tape answers : List ℕ) → Ends image tape answers (resultOf image tape answers) (imageAfter image tape answers) (answersAfter image tape answers)
 
 -- ---- the words of the table and the definitions of the code
+-- the image rule over the bytes is the code's: of the bits that no device record holds, and of the record
+abbrev pub ByteRuleIsRecordRule : Type 0
+ByteRuleIsRecordRule = (image : List ℕ) → ImageRuled image ↔ ((unusedZero image ≡ true) × (imageRule (deviceOf image) ≡ true))
+
 -- a good image is one that loads, as the device of its bytes
 abbrev pub GoodImageLoads : Type 0
 GoodImageLoads = (image : List ℕ) → GoodImage image ↔ (loadOf image ≡ Accepted (deviceOf image))

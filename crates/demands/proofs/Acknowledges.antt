@@ -25,7 +25,7 @@ use Rattle.events.specs.Numbers.{classOf, valueOf}
 use Rattle.device.specs.Events.{replied, irqOf, stepOf}
 use Rattle.tape.specs.Tapes.{records}
 use Rattle.answer.specs.Answers.{answerOf}
-use Rattle.tape.specs.Runs.{resultOf}
+use Rattle.run.specs.Runs.{resultOf}
 use Rattle.demands.specs.Refusals.{RecordMeans}
 use Rattle.demands.specs.Tapes.{deviceBefore, answerTo, classAt, valueAt}
 use Rattle.demands.specs.Acknowledges.{Gave, GivesVector, Served, RequestIsServed, NoVector, TapeGivesVector, TapeNoVector}

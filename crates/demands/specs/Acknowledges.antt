@@ -11,7 +11,7 @@ use Rattle.events.specs.declared.Event.the-variants.{Acknowledge}
 use Rattle.events.specs.declared.Answer.the-variants.{Vector}
 use Rattle.device.specs.Events.{irqOf, stepOf}
 use Rattle.tape.specs.Tapes.{records}
-use Rattle.tape.specs.Runs.{resultOf}
+use Rattle.run.specs.Runs.{resultOf}
 use Rattle.demands.specs.Refusals.{RecordMeans}
 use Rattle.demands.specs.Tapes.{deviceBefore, answerTo, classAt, valueAt}
 

@@ -209,8 +209,8 @@ fn rows_are_true() {
     assert!(seen > 30, "{seen}");
 }
 
-/// Of each result and each buffer lent to be written. The contracts of clients are demands, and no plain
-/// promise can be read off that of `lent::event`.
+/// Of each result and each buffer lent to be written. The contracts of clients are demands, no plain promise
+/// can be read off that of `lent::event`, and `tape::event_at` promises its result of some records only.
 #[test]
 fn public_functions_promise_one_outcome() {
     let laws = read("crates/clients/proofs/Unique.antt");
@@ -231,7 +231,11 @@ fn public_functions_promise_one_outcome() {
             let result = laws
                 .matches(&format!(": FixesResult {name}.Learnt\n"))
                 .count();
-            assert_eq!(result, line.matches(" -> ").count(), "{library}: {path}");
+            let results = match (library.as_str(), path.as_str()) {
+                ("tape", "event_at") => 0,
+                _ => line.matches(" -> ").count(),
+            };
+            assert_eq!(result, results, "{library}: {path}");
             let buffers = laws
                 .matches(&format!(": FixesBuffer {name}.Learnt "))
                 .count();
@@ -242,9 +246,12 @@ fn public_functions_promise_one_outcome() {
     assert!(seen > 80, "{seen}");
 }
 
+/// The public ones also by their paths, where it says why they ask.
 #[test]
-fn private_functions_that_ask_are_listed() {
+fn functions_that_ask_are_listed() {
     let listed = read("docs/API.md");
+    let asking = |line: &&str| line.starts_with("**Functions with a `requires`.**");
+    let reasons = listed.lines().find(asking).unwrap();
     let mut seen = 0;
     for library in libraries() {
         let mut name = String::new();
@@ -263,6 +270,11 @@ fn private_functions_that_ask_are_listed() {
                     && (row.contains(&format!("`{name}`")) || row.contains(&format!("::{name}`")))
             });
             assert!(row.is_some(), "docs/API.md lacks {library}: {name}");
+            let mut public = public_functions(&library).into_iter();
+            if public.any(|f| f.0.rsplit("::").next() == Some(&name)) {
+                let path = format!("`{library}::{name}`");
+                assert!(reasons.contains(&path), "docs/API.md lacks {path}");
+            }
             seen += 1;
         }
     }

@@ -15,7 +15,7 @@ use Rattle.image.specs.declared.Loaded.the-variants.{Accepted, Refused}
 use Rattle.image.specs.declared.Saved.{Saved}
 use Rattle.events.specs.declared.Refusal.{Refusal}
 use Rattle.image.specs.Image.{imageBytes, imageOf, deviceOf, loadOf, storedOver, savedOf, savedOver}
-use Rattle.tape.specs.Runs.{resultOf, imageAfter, answersAfter}
+use Rattle.run.specs.Runs.{resultOf, imageAfter, answersAfter}
 use Rattle.mfp.specs.Calls.{freshResult, freshOver}
 use Rattle.demands.specs.Refusals.{Given, Ends}
 use Rattle.demands.proofs.ByteRule.{byte-rule-is-record-rule}

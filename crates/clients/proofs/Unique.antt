@@ -1,7 +1,10 @@
 -- Each public function promises one outcome: its contract is an equation, or several, between what it gives or leaves and a definition. One law, and a line for each function.
--- `lent::event` alone is not here: the checker reads no plain promise off a contract over a lent record. `lent::event_by_value` is, and its proof rests on it. Assumes nothing.
+-- `lent::event` alone is not here: the checker reads no plain promise off a contract over a lent record. `lent::event_by_value` is, and its proof rests on it. `tape::event_at` promises its result of a record that means an event, and no more. Assumes nothing.
 use mathlib.Core.Path.{_≡_, sym, _∙_}
 use denote.Ref.{now}
+use Rattle.events.specs.declared.Event.{Event}
+use Rattle.record.specs.declared.Decoded.the-variants.{Valid}
+use Rattle.tape.specs.Tapes.{decoded}
 use Rattle.clients.specs.Unique.{FixesResult, FixesBuffer}
 use Rattle.bits.proofs.both.Reads as bits-both
 use Rattle.bits.proofs.bit_value.Reads as bits-bit-value
@@ -77,15 +80,17 @@ use Rattle.record.proofs.known.Reads as record-known
 use Rattle.record.proofs.input_of.Reads as record-input-of
 use Rattle.record.proofs.Raw.verdict.Reads as record-Raw-verdict
 use Rattle.answer.proofs.head.Reads as answer-head
+use Rattle.answer.proofs.put_answer.Reads as answer-put-answer
 use Rattle.lent.proofs.event_by_value.Reads as lent-event-by-value
 use Rattle.image.proofs.load.Reads as image-load
 use Rattle.image.proofs.store.Reads as image-store
 use Rattle.image.proofs.save.Reads as image-save
 use Rattle.text.proofs.line.Reads as text-line
 use Rattle.text.proofs.refused.Reads as text-refused
+use Rattle.tape.proofs.event_at.Reads as tape-event-at
 use Rattle.tape.proofs.record_at.Reads as tape-record-at
 use Rattle.tape.proofs.check.Reads as tape-check
-use Rattle.tape.proofs.run.Reads as tape-run
+use Rattle.run.proofs.run.Reads as run-run
 use Rattle.mfp.proofs.mfp_run.Reads as mfp-mfp-run
 use Rattle.mfp.proofs.mfp_fresh.Reads as mfp-mfp-fresh
 use Rattle.transcript.proofs.transcript.Reads as transcript-transcript
@@ -326,6 +331,9 @@ record-Raw-verdict-fixed κs a x y s t p q = one p q
 answer-head-fixed : FixesResult answer-head.Learnt
 answer-head-fixed κs a x y s t p q = one p q
 
+answer-put-answer-buffer-fixed : FixesBuffer answer-put-answer.Learnt (λ κs s. now (s .1 .0))
+answer-put-answer-buffer-fixed κs a x y s t p q = one p q
+
 -- ---- lent
 lent-event-by-value-fixed : FixesResult lent-event-by-value.Learnt
 lent-event-by-value-fixed κs a x y s t p q = one p q
@@ -357,20 +365,25 @@ text-refused-buffer-fixed : FixesBuffer text-refused.Learnt (λ κs s. now (s .0
 text-refused-buffer-fixed κs a x y s t p q = one (p .1 .0) (q .1 .0)
 
 -- ---- tape
+-- where the record that it is asked for means an event
+tape-event-at-fixed : (e : Event) → FixesResult (λ κs a x s. (decoded (now (a .0)) (a .1 .0) ≡ Valid e) × tape-event-at.Learnt κs a x s)
+tape-event-at-fixed e κs a x y s t p q = p .1 e (p .0) ∙ sym (q .1 e (q .0))
+
 tape-record-at-fixed : FixesResult tape-record-at.Learnt
 tape-record-at-fixed κs a x y s t p q = one p q
 
 tape-check-fixed : FixesResult tape-check.Learnt
 tape-check-fixed κs a x y s t p q = one p q
 
-tape-run-fixed : FixesResult tape-run.Learnt
-tape-run-fixed κs a x y s t p q = one (p .0) (q .0)
+-- ---- run
+run-run-fixed : FixesResult run-run.Learnt
+run-run-fixed κs a x y s t p q = one (p .0) (q .0)
 
-tape-run-image-fixed : FixesBuffer tape-run.Learnt (λ κs s. now (s .0))
-tape-run-image-fixed κs a x y s t p q = one (p .1) (q .1)
+run-run-image-fixed : FixesBuffer run-run.Learnt (λ κs s. now (s .0))
+run-run-image-fixed κs a x y s t p q = one (p .1) (q .1)
 
-tape-run-answers-fixed : FixesBuffer tape-run.Learnt (λ κs s. now (s .1 .1 .0))
-tape-run-answers-fixed κs a x y s t p q = one (p .2) (q .2)
+run-run-answers-fixed : FixesBuffer run-run.Learnt (λ κs s. now (s .1 .1 .0))
+run-run-answers-fixed κs a x y s t p q = one (p .2) (q .2)
 
 -- ---- mfp
 mfp-mfp-run-fixed : FixesResult mfp-mfp-run.Learnt

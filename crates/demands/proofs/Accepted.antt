@@ -17,7 +17,7 @@ use Rattle.record.specs.declared.Decoded.{Decoded}
 use Rattle.record.specs.declared.Decoded.the-variants.{Valid, Invalid}
 use Rattle.record.specs.Records.{recordBytes}
 use Rattle.tape.specs.Tapes.{decoded, records, events·at, events, eventsOf}
-use Rattle.tape.specs.Runs.{runOf, answersOf, resultOf, imageAfter, answersAfter}
+use Rattle.run.specs.Runs.{runOf, answersOf, resultOf, imageAfter, answersAfter}
 use Rattle.demands.specs.Accepted.{AllBytes, ATapeWritesBytes, ARunKeepsTheRule, AnAnsweredCallLeavesAnAcceptedImage, FreshAccepted, EmptyTapeAnswered}
 use Rattle.demands.proofs.Rule.{every-event-keeps-the-rule}
 use Rattle.demands.proofs.Images.{load-of-save, save-of-load}

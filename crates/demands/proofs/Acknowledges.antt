@@ -27,7 +27,7 @@ use Rattle.device.specs.Whole.{irqOf}
 use Rattle.step.specs.Events.{replied, stepOf}
 use Rattle.tape.specs.Tapes.{records}
 use Rattle.answer.specs.Answers.{answerOf}
-use Rattle.tape.specs.Runs.{resultOf}
+use Rattle.run.specs.Runs.{resultOf}
 use Rattle.demands.specs.Refusals.{RecordMeans}
 use Rattle.demands.specs.Tapes.{deviceBefore, answerTo, classAt, valueAt}
 use Rattle.demands.specs.Acknowledges.{Gave, GivesVector, Served, RequestIsServed, NoVector, TapeGivesVector, TapeNoVector}

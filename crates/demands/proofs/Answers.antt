@@ -16,7 +16,7 @@ use Rattle.record.specs.declared.Decoded.{Decoded}
 use Rattle.record.specs.Records.{recordBytes}
 use Rattle.tape.specs.Tapes.{decoded, records, events·at, events, eventsOf}
 use Rattle.answer.specs.Answers.{answerBytes, answerOf}
-use Rattle.tape.specs.Runs.{runOf, answersOf, resultOf, imageAfter, answersAfter}
+use Rattle.run.specs.Runs.{runOf, answersOf, resultOf, imageAfter, answersAfter}
 use Rattle.demands.specs.Refusals.{GoodBefore, RecordMeans, HasEvent}
 use Rattle.demands.specs.Tapes.{deviceBefore, answerTo}
 use Rattle.demands.proofs.Clocks.{run-parts, answer-parts}

@@ -9,11 +9,11 @@ use borrow.Author.Tests.{ne-eqb, eqb-true, eqb-false, lt-ltb, ltb-true}
 use Rattle.bits.specs.Bytes.{byte}
 use Rattle.bits.proofs.Bits.{halves, joined}
 use Rattle.timer.specs.Timers.{divisor, positionRule}
-use Rattle.interrupts.specs.Channels.{has}
+use Rattle.channels.specs.Channels.{has}
 use Rattle.interrupts.specs.Interrupts.{S}
 use Rattle.interrupts.proofs.Rule.{ruled, rule-kept}
 use Rattle.timers.proofs.Rule.{all-settled, timers-ruled}
-use Rattle.device.specs.Events.{imageRule}
+use Rattle.device.specs.Whole.{imageRule}
 use Rattle.image.specs.Image.{interruptsFrom, timersFrom, deviceOf, unusedZero}
 use Rattle.demands.specs.Refusals.{PositionRuled, below-divisor, in-mode-0, in-mode-8, ImageRuled, ByteRuleIsRecordRule}
 use Rattle.demands.proofs.Decides.{Decides, equal-decided, below-decided, both-decided}

@@ -11,7 +11,7 @@ use Rattle.timers.specs.Clocks.{none, addTimeouts}
 use Rattle.step.specs.Clocks.{clockTimeouts, clockDevice, clocksDevice, timeoutsDevice}
 use Rattle.step.specs.Events.{stepOf}
 use Rattle.answer.specs.Answers.{answerOf}
-use Rattle.tape.specs.Runs.{runOf, answersOf}
+use Rattle.run.specs.Runs.{runOf, answersOf}
 use Rattle.demands.specs.Clocks.{NClocks, SingleClocks, timeoutsOf, SingleClocksCounts, ClocksJoin, ClocksJoinCounts, RunParts, AnswerParts, beforeSpan, whole, JoinedDevice, JoinedCounts, JoinedRun, CutAnswers, JoinedAnswers}
 
 -- ---- one event of n clocks

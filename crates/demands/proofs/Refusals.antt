@@ -24,9 +24,10 @@ use Rattle.record.specs.Records.{recordBytes}
 use Rattle.tape.specs.Tapes.{records, decoded, firstBad·at, firstBad}
 use Rattle.answer.specs.Answers.{answerBytes}
 use Rattle.tape.specs.Tapes.{tapeMost}
-use Rattle.tape.specs.Runs.{code, resultOf, imageAfter, answersAfter}
+use Rattle.tape.specs.Checks.{code}
+use Rattle.run.specs.Runs.{resultOf, imageAfter, answersAfter}
 use Rattle.tape.proofs.Checks.{code-above, uneven, too-long, bad, roomy, cramped}
-use Rattle.tape.proofs.Results.{by-image, by-tape, refused}
+use Rattle.run.proofs.Results.{by-image, by-tape, refused}
 use Rattle.demands.specs.Refusals.{ImageMarked, ImageRuled, GoodImage, GoodRecord, GoodBefore, ChecksReach, Given, image-length-wrong, image-mark-wrong, image-rule-broken, tape-length-wrong, record-mark-wrong, kind-above-7, operand-out-of-range, serial-register, answers-too-short, not-refused, EachCallHasItsRow, NoOtherRow, Ends, with-answers, with-refusal, AnsweredOrRefused, GoodImageLoads}
 use Rattle.demands.proofs.Decides.{Decides, equal-decided, both-decided, not-passed, not-held}
 use Rattle.demands.proofs.ByteRule.{byte-rule-is-record-rule}

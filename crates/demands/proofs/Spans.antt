@@ -25,7 +25,7 @@ use Rattle.record.specs.Records.{recordBytes}
 use Rattle.tape.specs.Tapes.{decoded, records, events}
 use Rattle.answer.specs.Answers.{answerBytes, answerMark0, answerMark1, answerOf, headBytes}
 use Rattle.tape.specs.Tapes.{tapeMost}
-use Rattle.tape.specs.Runs.{runOf, resultOf}
+use Rattle.run.specs.Runs.{runOf, resultOf}
 use Rattle.demands.specs.Clocks as C
 use Rattle.demands.specs.Refusals.{GoodRecord, GoodBefore}
 use Rattle.demands.specs.Tapes.{mostClocks, deviceBefore, answerTo, countAt, Spanned, SaysDone, SameBut}

@@ -9,7 +9,7 @@ use Rattle.device.specs.Whole.{freshDevice, imageRule}
 use Rattle.image.specs.declared.Loaded.the-variants.{Accepted}
 use Rattle.image.specs.Image.{imageOf, deviceOf, loadOf}
 use Rattle.tape.specs.Tapes.{eventsOf}
-use Rattle.tape.specs.Runs.{runOf, resultOf, imageAfter, answersAfter}
+use Rattle.run.specs.Runs.{runOf, resultOf, imageAfter, answersAfter}
 use Rattle.demands.specs.Rule.{Bytes}
 use Rattle.demands.specs.Images.{OfBytes}
 use Rattle.demands.specs.Refusals.{GoodImage}

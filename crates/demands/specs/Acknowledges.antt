@@ -13,7 +13,7 @@ use Rattle.events.specs.declared.Answer.the-variants.{Vector}
 use Rattle.device.specs.Whole.{irqOf}
 use Rattle.step.specs.Events.{stepOf}
 use Rattle.tape.specs.Tapes.{records}
-use Rattle.tape.specs.Runs.{resultOf}
+use Rattle.run.specs.Runs.{resultOf}
 use Rattle.demands.specs.Refusals.{RecordMeans}
 use Rattle.demands.specs.Tapes.{deviceBefore, answerTo, classAt, valueAt}
 

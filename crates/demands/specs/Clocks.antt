@@ -14,7 +14,7 @@ use Rattle.timers.specs.Clocks.{none, addTimeouts}
 use Rattle.step.specs.Clocks.{clocksDevice, timeoutsDevice}
 use Rattle.step.specs.Events.{stepOf}
 use Rattle.answer.specs.Answers.{answerOf}
-use Rattle.tape.specs.Runs.{runOf, answersOf}
+use Rattle.run.specs.Runs.{runOf, answersOf}
 
 -- ---- one event of n clocks
 -- it is n single clocks, and its counts are their reloads

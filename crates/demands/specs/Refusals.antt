@@ -19,7 +19,7 @@ use Rattle.record.specs.Records.{recordBytes}
 use Rattle.tape.specs.declared.Found.the-variants.{Refused, PastEnd}
 use Rattle.tape.specs.Tapes.{tapeMost, records, decoded, eventsOf, recordAt}
 use Rattle.answer.specs.Answers.{answerBytes}
-use Rattle.tape.specs.Runs.{runOf, answersOf, resultOf, imageAfter, answersAfter}
+use Rattle.run.specs.Runs.{runOf, answersOf, resultOf, imageAfter, answersAfter}
 
 -- ---- an image
 -- "0–1 mark 4D 31"

@@ -12,7 +12,7 @@ use Rattle.image.specs.Image.{deviceOf}
 use Rattle.record.specs.Records.{recordBytes, recordMark0, recordMark1}
 use Rattle.tape.specs.Tapes.{tapeMost, decoded, records, events}
 use Rattle.answer.specs.Answers.{answerBytes, headBytes, countBytes}
-use Rattle.tape.specs.Runs.{runOf, resultOf, imageAfter, answersAfter}
+use Rattle.run.specs.Runs.{runOf, resultOf, imageAfter, answersAfter}
 use Rattle.demands.specs.Refusals.{RecordMeans}
 
 -- "any n from 0 to 4,294,967,295"

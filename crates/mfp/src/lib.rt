@@ -1,7 +1,7 @@
 // The C face: thin calls on lent byte buffers, and nothing else. host/include/mfp.h declares them.
 use device::Device;
 ghost use mathlib.Core.Path.{_≡_};
-ghost use Rattle.tape.specs.Runs.{resultOf, imageAfter, answersAfter};
+ghost use Rattle.run.specs.Runs.{resultOf, imageAfter, answersAfter};
 ghost use Rattle.mfp.specs.Calls.{freshResult, freshOver};
 
 // Runs a tape on the device of an image: 0, or 256 × index of the bad record + the refusal's number.
@@ -11,7 +11,7 @@ pub extern "C" fn mfp_run(image: &mut [u8], tape: &[u8], answers: &mut [u8]) -> 
         × (now (image .exit) ≡ imageAfter (now (image .entry)) (now (tape .entry)) (now (answers .entry)))
         × (now (answers .exit) ≡ answersAfter (now (image .entry)) (now (tape .entry)) (now (answers .entry))) ⌝ }
 {
-    tape::run(image, tape, answers)
+    run::run(image, tape, answers)
 }
 
 // Writes the image of a fresh device: 0, or 1 where the buffer is not of an image's length.

@@ -16,7 +16,7 @@ use Rattle.tape.specs.declared.Checked.the-variants.{Fine, Bad}
 use Rattle.record.specs.Records.{recordBytes}
 use Rattle.tape.specs.Tapes.{records, decoded, firstBad·at, firstBad}
 use Rattle.tape.specs.Tapes.{tapeMost, fitting}
-use Rattle.tape.specs.Runs.{code, afterRecords, tapeResult}
+use Rattle.tape.specs.Checks.{code, afterRecords, tapeResult}
 use Rattle.answer.specs.Answers.{answerBytes}
 
 -- a refusal's number is not 0

@@ -1,6 +1,3 @@
--- The laws of a tape's records, of its check, and of a run over it.
+-- The laws of a tape's records, and of its check.
 pub mod Tapes
 pub mod Checks
-pub mod Stores
-pub mod Going
-pub mod Results

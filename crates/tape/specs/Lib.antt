@@ -1,3 +1,3 @@
--- The tape of events, the refusals in their order, and a whole run.
+-- The tape of events, and its refusals in their order.
 pub mod Tapes
-pub mod Runs
+pub mod Checks

@@ -16,7 +16,7 @@ use Rattle.answer.specs.Answers.{answerBytes}
 use Rattle.tape.specs.declared.Checked.{Checked}
 use Rattle.tape.specs.declared.Checked.the-variants.{Fine, Bad}
 use Rattle.tape.specs.Tapes.{tapeMost, fitting, records, firstBad}
-use Rattle.tape.specs.Runs.{code, afterRecords, tapeResult}
+use Rattle.tape.specs.Checks.{code, afterRecords, tapeResult}
 use Rattle.tape.proofs.Checks.{index-below}
 use Rattle.transcript.specs.Transcript.{recordsMost, answersMost, codeOf}
 

@@ -8,7 +8,7 @@ use Rattle.record.specs.Records.{recordBytes}
 use Rattle.answer.specs.Answers.{answerBytes}
 use Rattle.text.specs.Lines.{bytes, decimalIn, decimal, refusedLine}
 use Rattle.tape.specs.Tapes.{tapeMost, fitting, records, firstBad, events}
-use Rattle.tape.specs.Runs.{tapeResult}
+use Rattle.tape.specs.Checks.{tapeResult}
 use Rattle.tape.proofs.Checks.{uneven, too-long}
 use Rattle.transcript.specs.Transcript.{linesOf, codeOf, transcriptOf}
 

@@ -14,7 +14,7 @@ use Rattle.text.specs.Lines.{lineMost, refusedLine, written, writtenLength, Cou
 use Rattle.text.proofs.Whole.{counts, length-long}
 use Rattle.tape.specs.declared.Checked.the-variants.{Fine}
 use Rattle.tape.specs.Tapes.{fitting, records, firstBad, eventsOf}
-use Rattle.tape.specs.Runs.{tapeResult}
+use Rattle.tape.specs.Checks.{tapeResult}
 use Rattle.tape.proofs.Checks.{passed}
 use Rattle.demands.proofs.Accepted.{fresh-keeps-the-rule}
 use Rattle.transcript.specs.Transcript.{recordsMost, answersMost, enough, linesOf, codeOf, transcriptOf, printed, printedLength}

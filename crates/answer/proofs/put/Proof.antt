@@ -1,4 +1,4 @@
--- `tape::put` meets its contract: the copy covers the part of the bytes' length. Assumes nothing.
+-- `answer::put` meets its contract: the copy covers the part of the bytes' length. Assumes nothing.
 use Prim.Native.Nat.{ℕ, _+_, _-_, _≤_}
 use mathlib.Core.List.{List, _++_, append-nil, append-assoc}
 use mathlib.Core.Path.{_≡_, sym, ap, ap₂, _∙_}
@@ -7,8 +7,8 @@ use lib.ListN.{length, take, drop}
 use lib.Seq.{take-length, drop-length}
 use borrow.Rule.Slice.PartMut.{midOf, putMid, mid-len, post-is}
 use borrow.Author.Needs.{needs}
-use Rattle.tape.proofs.put.Statement.{statement}
-use Rattle.tape.proofs.put.Tie as tie
+use Rattle.answer.proofs.put.Statement.{statement}
+use Rattle.answer.proofs.put.Tie as tie
 
 -- the bytes, copied over the part of their length
 laid : (at : ℕ) (b ans out : List ℕ) → at + length b ≤ length ans

@@ -1,13 +1,20 @@
--- `tape::run` meets its contract: refused, nothing is altered; done, the run's image and answers. Assumes nothing.
-use mathlib.Core.Path.{sym, ap, _∙_}
+-- `run::run` meets its contract: refused, nothing is altered; done, the run's image and answers. Assumes nothing.
+use mathlib.Core.Path.{_≡_, sym, ap, _∙_}
 use native.Mathlib.Omega.{arith}
 use borrow.Author.Needs.{needs}
 use lib.ListN.{length}
 use Rattle.image.specs.Image.{storedOver}
+use Rattle.events.specs.declared.Refusal.{Refusal}
+use Rattle.events.specs.Numbers.{numberOf}
+use Rattle.tape.specs.Checks.{code}
 use Rattle.tape.proofs.Checks.{passed, code-above}
-use Rattle.tape.proofs.Results.{by-image, by-tape, refused, done}
-use Rattle.tape.proofs.run.Statement.{statement}
-use Rattle.tape.proofs.run.Tie as tie
+use Rattle.run.proofs.Results.{by-image, by-tape, refused, done}
+use Rattle.run.proofs.run.Statement.{statement}
+use Rattle.run.proofs.run.Tie as tie
+
+-- a refusal of the image is its number alone
+first : (r : Refusal) → code r 0 ≡ numberOf r
+first r = omega arith
 
 load-requires : tie.Need-load-requires
 load-requires c κs = search needs
@@ -15,8 +22,11 @@ load-requires c κs = search needs
 enum-known-l : tie.Need-enum-known-l
 enum-known-l c = search needs
 
-coded-requires : tie.Need-coded-requires
-coded-requires c κs = search needs
+number-of-requires : tie.Need-number-of-requires
+number-of-requires c κs = search needs
+
+cast-result : tie.Need-cast-result
+cast-result c = search needs
 
 enum-known-l-2 : tie.Need-enum-known-l-2
 enum-known-l-2 c = search needs
@@ -42,7 +52,10 @@ same-length-2 : tie.Need-same-length-2
 same-length-2 c = search needs
 
 returns-2 : tie.Need-returns-2
-returns-2 c = refused (c .before .before .before .before .before .before .before .before .before .args .image .now) (c .before .before .before .before .before .before .before .before .before .args .tape .now) (c .before .before .before .before .before .before .before .before .before .args .answers .now) _ (c .coded .ensures ∙ sym (by-image (c .before .before .before .before .before .before .before .before .before .args .image .now) (c .before .before .before .before .before .before .before .before .before .args .tape .now) (c .before .before .before .before .before .before .before .before .before .args .answers .now) _ (sym (c .before .before .before .before .load .ensures) ∙ c .before .before .l .given .1))) (λ z. code-above (c .before .before .l .given .0 .0) 0 (sym (c .coded .ensures) ∙ z))
+returns-2 c =
+    let a = c .before .before .before .before .before .before .before .before .before .args in
+    let r = c .before .before .l .given .0 .0 in
+    refused (a .image .now) (a .tape .now) (a .answers .now) _ (c .number-of .ensures ∙ sym (first r) ∙ sym (by-image (a .image .now) (a .tape .now) (a .answers .now) r (sym (c .before .before .before .before .load .ensures) ∙ c .before .before .l .given .1))) (λ z. code-above r 0 (first r ∙ sym (c .number-of .ensures) ∙ z))
 
 same-length-3 : tie.Need-same-length-3
 same-length-3 c = search needs
@@ -61,7 +74,8 @@ run-spec =
     (tie.spec
     load-requires
     enum-known-l
-    coded-requires
+    number-of-requires
+    cast-result
     enum-known-l-2
     check-requires
     same-length

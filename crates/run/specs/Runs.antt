@@ -1,22 +1,18 @@
 -- Document 01, "Tape and answers": a whole run, and the refusals in their order.
-use Prim.Native.Nat.{ℕ, _+_, _*_}
+use Prim.Native.Nat.{ℕ, _*_}
 use mathlib.Core.Bool.{cond}
 use mathlib.Core.List.{List, [], _∷_, _++_}
-use lib.Dec.{leb, eqb}
+use lib.Dec.{eqb}
 use lib.ListN.{length, drop}
 use Rattle.device.specs.declared.Device.{Device}
 use Rattle.events.specs.declared.Event.{Event}
-use Rattle.events.specs.declared.Refusal.{Refusal}
-use Rattle.events.specs.declared.Refusal.the-variants.{TapeLength, AnswerLength}
-use Rattle.events.specs.Numbers.{numberOf}
 use Rattle.step.specs.Events.{stepOf}
 use Rattle.image.specs.Image.{imageOf, deviceOf, loadOf}
 use Rattle.image.specs.declared.Loaded.{Loaded}
 use Rattle.image.specs.declared.Loaded.the-variants.{Accepted, Refused}
-use Rattle.tape.specs.declared.Checked.{Checked}
-use Rattle.tape.specs.declared.Checked.the-variants.{Fine, Bad}
 use Rattle.answer.specs.Answers.{answerBytes, answerOf}
-use Rattle.tape.specs.Tapes.{fitting, records, firstBad, eventsOf}
+use Rattle.tape.specs.Tapes.{records, eventsOf}
+use Rattle.tape.specs.Checks.{code, tapeResult}
 
 -- ---- events one after the other
 unfoldable pub runOf : Device → List Event → Device
@@ -29,19 +25,6 @@ answersOf d [] = []
 answersOf d (e ∷ es) = answerOf (stepOf d e) ++ answersOf (stepOf d e .device) es
 
 -- ---- the refusals
--- "The C call returns 0, or 256 × index of the bad record (0 for 1 to 4 and 9) + number."
-abbrev pub code : Refusal → ℕ → ℕ
-code r i = 256 * i + numberOf r
-
--- 9: "answer buffer shorter than 22 × records", after all records
-abbrev pub afterRecords : Checked → ℕ → ℕ → ℕ
-afterRecords (Bad r i) n room = code r i
-afterRecords Fine n room = cond (leb (answerBytes * n) room) 0 (code AnswerLength 0)
-
--- of a tape alone: 4, then 5 to 8, then 9
-unfoldable pub tapeResult : List ℕ → ℕ → ℕ
-tapeResult tape room = cond (fitting tape) (afterRecords (firstBad tape 0 (records tape)) (records tape) room) (code TapeLength 0)
-
 -- "Checks run 1 to 4, then 5 to 8 for each record in tape order, then 9."
 abbrev pub afterImage : Loaded → List ℕ → ℕ → ℕ
 afterImage (Refused r) tape room = code r 0

@@ -1,4 +1,4 @@
--- `tape::put_answer` meets its contract: five stores, each where the one before ends, are the answer's bytes. Assumes nothing.
+-- `answer::put_answer` meets its contract: five stores, each where the one before ends, are the answer's bytes. Assumes nothing.
 use Prim.Native.Nat.{ℕ, _+_, _≤_}
 use mathlib.Core.List.{List, [], _++_}
 use mathlib.Core.Path.{_≡_, ap, ap₂, _∙_}
@@ -6,11 +6,11 @@ use native.Mathlib.Omega.{arith}
 use lib.ListN.{length, take, drop}
 use Rattle.bits.specs.Bytes.{four}
 use Rattle.device.specs.declared.Stepped.{Stepped}
 use Rattle.answer.specs.Answers.{headBytes, countBytes, answerBytes, headOf, answerOf}
-use Rattle.tape.proofs.Stores.{placed, placed-twice}
+use Rattle.answer.proofs.Stores.{placed, placed-twice}
 use borrow.Author.Needs.{needs}
-use Rattle.tape.proofs.put_answer.Statement.{statement}
-use Rattle.tape.proofs.put_answer.Tie as tie
+use Rattle.answer.proofs.put_answer.Statement.{statement}
+use Rattle.answer.proofs.put_answer.Tie as tie
 
 -- the buffer after each store, from the one before it
 module _ (s : Stepped) (at : ℕ) (l : List ℕ) (room : at + answerBytes ≤ length l) where

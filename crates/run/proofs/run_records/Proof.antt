@@ -1,4 +1,4 @@
--- `tape::run_records` meets its contract. The loop's invariant is `Going`: what is done and what is left make the whole run.
+-- `run::run_records` meets its contract. The loop's invariant is `Going`: what is done and what is left make the whole run.
 -- The measure is how many records are left. Assumes nothing.
 use Prim.Native.Nat.{ℕ, _+_, _-_, _*_, _≤_, _<_}
 use mathlib.Core.List.{List, _++_}
@@ -12,12 +12,12 @@ use Rattle.device.specs.declared.Stepped.{Stepped}
 use Rattle.step.specs.Events.{stepOf}
 use Rattle.record.specs.declared.Decoded.the-variants.{Valid}
 use Rattle.record.specs.Records.{recordBytes}
 use Rattle.tape.specs.Tapes.{decoded}
 use Rattle.answer.specs.Answers.{answerBytes, answerOf}
-use Rattle.tape.proofs.Going.{Going, going-begins, going-on, going-ends}
+use Rattle.run.proofs.Going.{Going, going-begins, going-on, going-ends}
 use Rattle.tape.proofs.Tapes.{check-fine}
-use Rattle.tape.proofs.run_records.Statement.{statement}
-use Rattle.tape.proofs.run_records.Tie as tie
+use Rattle.run.proofs.run_records.Statement.{statement}
+use Rattle.run.proofs.run_records.Tie as tie
 
 abbrev Inv-loop : tie.InvT-loop
 Inv-loop tape answers₀ n at₀ i₀ answers at i = Going at₀ tape answers₀ n answers at i

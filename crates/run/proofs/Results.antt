@@ -13,9 +13,10 @@ use Rattle.image.specs.declared.Loaded.{Loaded}
 use Rattle.image.specs.declared.Loaded.the-variants.{Accepted, Refused}
 use Rattle.image.specs.Image.{imageOf, loadOf, storedOver}
 use Rattle.image.proofs.Loads.{Read, read}
 use Rattle.tape.specs.Tapes.{records, eventsOf}
-use Rattle.tape.specs.Runs.{runOf, answersOf, code, tapeResult, afterImage, resultOf, imageAfter, answersAfter}
+use Rattle.tape.specs.Checks.{code, tapeResult}
 use Rattle.answer.specs.Answers.{answerBytes}
+use Rattle.run.specs.Runs.{runOf, answersOf, afterImage, resultOf, imageAfter, answersAfter}
 
 module _ (image tape answers : List ℕ) where
   pub by-image : (r : Refusal) → loadOf image ≡ Refused r → resultOf image tape answers ≡ code r 0

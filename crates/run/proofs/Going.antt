@@ -9,12 +9,12 @@ use Rattle.device.specs.declared.Device.{Device}
 use Rattle.events.specs.declared.Event.{Event}
 use Rattle.step.specs.Events.{stepOf}
 use Rattle.record.specs.declared.Decoded.the-variants.{Valid}
 use Rattle.tape.specs.declared.Checked.the-variants.{Fine}
 use Rattle.record.specs.Records.{recordBytes}
 use Rattle.tape.specs.Tapes.{decoded, firstBad, events}
 use Rattle.answer.specs.Answers.{answerBytes, answerOf}
-use Rattle.tape.specs.Runs.{runOf, answersOf}
+use Rattle.run.specs.Runs.{runOf, answersOf}
 use Rattle.tape.proofs.Tapes.{check-valid, event-valid, events-none}
 
 module _ (d : Device) (tape ans₀ : List ℕ) (n : ℕ) where
   -- after i of n records, at a device and with the answers so far

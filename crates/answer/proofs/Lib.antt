@@ -1,0 +1,2 @@
+-- The law of bytes put one after the other.
+pub mod Stores

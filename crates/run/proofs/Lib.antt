@@ -1,0 +1,3 @@
+-- The laws of a run.
+pub mod Going
+pub mod Results

@@ -1,0 +1,2 @@
+-- A whole run.
+pub mod Runs

@@ -1,0 +1,25 @@
+-- Document 01, "Tape and answers": the check of a whole tape, its refusals in their order.
+use Prim.Native.Nat.{ℕ, _+_, _*_}
+use mathlib.Core.Bool.{cond}
+use mathlib.Core.List.{List}
+use lib.Dec.{leb}
+use Rattle.events.specs.declared.Refusal.{Refusal}
+use Rattle.events.specs.declared.Refusal.the-variants.{TapeLength, AnswerLength}
+use Rattle.events.specs.Numbers.{numberOf}
+use Rattle.answer.specs.Answers.{answerBytes}
+use Rattle.tape.specs.declared.Checked.{Checked}
+use Rattle.tape.specs.declared.Checked.the-variants.{Fine, Bad}
+use Rattle.tape.specs.Tapes.{fitting, records, firstBad}
+
+-- "The C call returns 0, or 256 × index of the bad record (0 for 1 to 4 and 9) + number."
+abbrev pub code : Refusal → ℕ → ℕ
+code r i = 256 * i + numberOf r
+
+-- 9: "answer buffer shorter than 22 × records", after all records
+abbrev pub afterRecords : Checked → ℕ → ℕ → ℕ
+afterRecords (Bad r i) n room = code r i
+afterRecords Fine n room = cond (leb (answerBytes * n) room) 0 (code AnswerLength 0)
+
+-- of a tape alone: 4, then 5 to 8, then 9
+unfoldable pub tapeResult : List ℕ → ℕ → ℕ
+tapeResult tape room = cond (fitting tape) (afterRecords (firstBad tape 0 (records tape)) (records tape) room) (code TapeLength 0)

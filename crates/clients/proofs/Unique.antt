@@ -89,7 +89,7 @@ use Rattle.text.proofs.line.Reads as text-line
 use Rattle.text.proofs.refused.Reads as text-refused
 use Rattle.tape.proofs.event_at.Reads as tape-event-at
 use Rattle.tape.proofs.record_at.Reads as tape-record-at
-use Rattle.tape.proofs.check.Reads as tape-check
+use Rattle.checks.proofs.check.Reads as checks-check
 use Rattle.run.proofs.run.Reads as run-run
 use Rattle.mfp.proofs.mfp_run.Reads as mfp-mfp-run
 use Rattle.mfp.proofs.mfp_fresh.Reads as mfp-mfp-fresh
@@ -372,8 +372,8 @@ tape-event-at-fixed e κs a x y s t p q = p .1 e (p .0) ∙ sym (q .1 e (q .0))
 tape-record-at-fixed : FixesResult tape-record-at.Learnt
 tape-record-at-fixed κs a x y s t p q = one p q
 
-tape-check-fixed : FixesResult tape-check.Learnt
-tape-check-fixed κs a x y s t p q = one p q
+checks-check-fixed : FixesResult checks-check.Learnt
+checks-check-fixed κs a x y s t p q = one p q
 
 -- ---- run
 run-run-fixed : FixesResult run-run.Learnt

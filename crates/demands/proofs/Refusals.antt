@@ -19,14 +19,15 @@ use Rattle.bits.proofs.Bits.{halves, joined}
 use Rattle.image.proofs.Loads.{read}
 use Rattle.record.specs.declared.Decoded.{Decoded}
 use Rattle.record.specs.declared.Decoded.the-variants.{Valid, Invalid}
-use Rattle.tape.specs.declared.Checked.the-variants.{Fine, Bad}
+use Rattle.checks.specs.declared.Checked.the-variants.{Fine, Bad}
 use Rattle.record.specs.Records.{recordBytes}
-use Rattle.tape.specs.Tapes.{records, decoded, firstBad·at, firstBad}
+use Rattle.tape.specs.Tapes.{records, decoded}
+use Rattle.checks.specs.Checks.{firstBad·at, firstBad}
 use Rattle.answer.specs.Answers.{answerBytes}
 use Rattle.tape.specs.Tapes.{tapeMost}
-use Rattle.tape.specs.Checks.{code}
+use Rattle.checks.specs.Checks.{code}
 use Rattle.run.specs.Runs.{resultOf, imageAfter, answersAfter}
-use Rattle.tape.proofs.Checks.{code-above, uneven, too-long, bad, roomy, cramped}
+use Rattle.checks.proofs.Checks.{code-above, uneven, too-long, bad, roomy, cramped}
 use Rattle.run.proofs.Results.{by-image, by-tape, refused}
 use Rattle.demands.specs.Refusals.{ImageMarked, ImageRuled, GoodImage, GoodRecord, GoodBefore, ChecksReach, Given, image-length-wrong, image-mark-wrong, image-rule-broken, tape-length-wrong, record-mark-wrong, kind-above-7, operand-out-of-range, serial-register, answers-too-short, not-refused, EachCallHasItsRow, NoOtherRow, Ends, with-answers, with-refusal, AnsweredOrRefused, GoodImageLoads}
 use Rattle.demands.proofs.Decides.{Decides, equal-decided, both-decided, not-passed, not-held}

@@ -14,7 +14,7 @@ use Rattle.image.specs.declared.Loaded.the-variants.{Accepted, Refused}
 use Rattle.image.specs.Image.{imageOf, loadOf, storedOver}
 use Rattle.image.proofs.Loads.{Read, read}
 use Rattle.tape.specs.Tapes.{records, eventsOf}
-use Rattle.tape.specs.Checks.{code, tapeResult}
+use Rattle.checks.specs.Checks.{code, tapeResult}
 use Rattle.answer.specs.Answers.{answerBytes}
 use Rattle.run.specs.Runs.{runOf, answersOf, afterImage, resultOf, imageAfter, answersAfter}
 

@@ -12,7 +12,7 @@ use Rattle.image.specs.declared.Loaded.{Loaded}
 use Rattle.image.specs.declared.Loaded.the-variants.{Accepted, Refused}
 use Rattle.answer.specs.Answers.{answerBytes, answerOf}
 use Rattle.tape.specs.Tapes.{records, eventsOf}
-use Rattle.tape.specs.Checks.{code, tapeResult}
+use Rattle.checks.specs.Checks.{code, tapeResult}
 
 -- ---- events one after the other
 unfoldable pub runOf : Device → List Event → Device

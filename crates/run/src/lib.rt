@@ -9,8 +9,9 @@ ghost use Prim.Native.Nat.{_*_, _≤_};
 ghost use lib.ListN.{length, drop};
 ghost use Rattle.record.specs.Records.{recordBytes};
 ghost use Rattle.answer.specs.Answers.{answerBytes};
-ghost use Rattle.tape.specs.declared.Checked.the-variants.{Fine};
-ghost use Rattle.tape.specs.Tapes.{firstBad, events};
+ghost use Rattle.checks.specs.declared.Checked.the-variants.{Fine};
+ghost use Rattle.tape.specs.Tapes.{events};
+ghost use Rattle.checks.specs.Checks.{firstBad};
 ghost use Rattle.run.specs.Runs.{runOf, answersOf, resultOf, imageAfter, answersAfter};
 
 // Runs the n records of a checked tape from device d, and writes their answers.
@@ -51,7 +52,7 @@ pub fn run(image: &mut [u8], tape: &[u8], answers: &mut [u8]) -> u32
     match l {
         Loaded::Refused(r) => events::number_of(r) as u32,
         Loaded::Accepted(d) => {
-            let c = tape::check(tape, answers.len());
+            let c = checks::check(tape, answers.len());
             if c != 0 {
                 return c;
             }

@@ -1,3 +1,2 @@
--- The laws of a tape's records, and of its check.
+-- The laws of a tape's records.
 pub mod Tapes
-pub mod Checks

@@ -1,39 +1,18 @@
--- One record more or less of a tape: what the check and the run do with it. Assumes nothing.
+-- One record more or less of a tape: what the run does with it. Assumes nothing.
 use Prim.Native.Nat.{ℕ, suc, _+_, _-_, _*_, _<_}
-use mathlib.Core.Path.{_≡_, refl, sym, ap, _∙_}
+use mathlib.Core.Path.{_≡_, refl, ap, _∙_}
 use mathlib.Core.List.{List, [], _∷_}
 use native.Mathlib.Omega.{arith}
 use Rattle.events.specs.declared.Event.{Event}
-use Rattle.events.specs.declared.Refusal.{Refusal}
 use Rattle.record.specs.declared.Decoded.{Decoded}
-use Rattle.record.specs.declared.Decoded.the-variants.{Valid, Invalid}
-use Rattle.tape.specs.declared.Checked.the-variants.{Fine, Bad}
+use Rattle.record.specs.declared.Decoded.the-variants.{Valid}
 use Rattle.record.specs.Records.{recordBytes}
-use Rattle.tape.specs.Tapes.{decoded, firstBad·at, firstBad, events·at, events}
-use Rattle.record.proofs.Verdicts.{Holds}
+use Rattle.tape.specs.Tapes.{decoded, events·at, events}
 
 module _ (tape : List ℕ) (i n : ℕ) (h : i < n) where
-  more : n - i ≡ suc (n - (i + 1))
+  -- the records from the i-th on are the i-th and those after it
+  pub more : n - i ≡ suc (n - (i + 1))
   more = omega arith
-
-  -- the check at the i-th of n records
-  check-at : firstBad tape i (n - i) ≡ firstBad·at (decoded tape (i * recordBytes)) i (firstBad tape (i + 1) (n - (i + 1)))
-  unfolding firstBad
-  check-at = ap (firstBad tape i) more
-
-  pub check-bad : (r : Refusal) → decoded tape (i * recordBytes) ≡ Invalid r → firstBad tape i (n - i) ≡ Bad r i
-  check-bad r e = check-at ∙ ap (λ (d : Decoded). firstBad·at d i (firstBad tape (i + 1) (n - (i + 1)))) e
-
-  pub check-valid : (e : Event) → decoded tape (i * recordBytes) ≡ Valid e → firstBad tape i (n - i) ≡ firstBad tape (i + 1) (n - (i + 1))
-  check-valid e p = check-at ∙ ap (λ (d : Decoded). firstBad·at d i (firstBad tape (i + 1) (n - (i + 1)))) p
-
-  -- a record that the check lets pass has an event
-  pub check-fine : firstBad tape i (n - i) ≡ Fine → Holds (decoded tape (i * recordBytes))
-  check-fine f = go (decoded tape (i * recordBytes)) refl
-    where
-      go : (d : Decoded) → decoded tape (i * recordBytes) ≡ d → Holds (decoded tape (i * recordBytes))
-      go (Valid x) p = record { event = x; is = p }
-      go (Invalid r) p = let b : Bad r i ≡ Fine = sym (check-bad r p) ∙ f in let z : _≡_ {A = ℕ} 0 1 = cc in absurd (omega arith)
 
   -- the event of the i-th record
   pub event-valid : (e : Event) → decoded tape (i * recordBytes) ≡ Valid e → events tape i (n - i) ≡ e ∷ events tape (i + 1) (n - (i + 1))
@@ -41,10 +20,6 @@ module _ (tape : List ℕ) (i n : ℕ) (h : i < n) where
   event-valid e p = ap (events tape i) more ∙ ap (λ (d : Decoded). events·at d (events tape (i + 1) (n - (i + 1)))) p
 
 -- past the last record
-pub check-none : (tape : List ℕ) (i : ℕ) → firstBad tape i 0 ≡ Fine
-unfolding firstBad
-check-none tape i = refl
-
 pub events-none : (tape : List ℕ) (i : ℕ) → events tape i 0 ≡ []
 unfolding events
 events-none tape i = refl

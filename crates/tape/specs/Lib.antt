@@ -1,3 +1,2 @@
--- The tape of events, and its refusals in their order.
+-- The tape of events, by its records.
 pub mod Tapes
-pub mod Checks

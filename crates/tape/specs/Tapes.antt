@@ -13,8 +13,6 @@ use Rattle.record.specs.declared.Decoded.the-variants.{Valid, Invalid}
 use Rattle.record.specs.Records.{recordBytes, meant}
 use Rattle.tape.specs.declared.Found.{Found}
 use Rattle.tape.specs.declared.Found.the-variants.{Means, Refused, PastEnd}
-use Rattle.tape.specs.declared.Checked.{Checked}
-use Rattle.tape.specs.declared.Checked.the-variants.{Fine, Bad}
 
 -- 4: "tape length not a multiple of 8, or above 4,096"
 abbrev pub tapeMost : ℕ
@@ -54,15 +52,6 @@ unfoldable pub recordAt : List ℕ → ℕ → Found
 recordAt tape i = cond (fitting tape) (cond (leb (records tape) i) PastEnd (foundIn (decoded tape (i * recordBytes)))) (Refused TapeLength)
 
 -- ---- all records
--- "5 to 8 for each record in tape order": the first refused of the k records from the i-th on, with its index
-abbrev pub firstBad·at : Decoded → ℕ → Checked → Checked
-firstBad·at (Valid e) i later = later
-firstBad·at (Invalid r) i later = Bad r i
-
-unfoldable pub firstBad : List ℕ → ℕ → ℕ → Checked
-firstBad tape i zero = Fine
-firstBad tape i (suc k) = firstBad·at (decoded tape (i * recordBytes)) i (firstBad tape (i + 1) k)
-
 -- the events of the k records from the i-th on
 abbrev pub events·at : Decoded → List Event → List Event
 events·at (Valid e) later = e ∷ later

@@ -1,7 +1,5 @@
-// The tape: its records found in the bytes, and the whole check in the paper's order. The rules stand in
-// specs/. Everything is checked before anything is run; the check and the run keep to one meaning of a
-// record.
-use answer::ANSWER_BYTES;
+// The tape: its records found in the bytes, and what each means. The rules stand in specs/. The check of a
+// whole tape is crate checks; the check and the run keep to one meaning of a record.
 use channels::Channel;
 use channels::Line;
 use events::Event;
@@ -16,8 +14,7 @@ ghost use Rattle.events.specs.declared.Event.{Event as EventT};
 ghost use Rattle.record.specs.declared.Decoded.the-variants.{Valid};
 ghost use Rattle.record.specs.Records.{recordBytes};
 ghost use Rattle.record.specs.Verdicts.{verdictOf};
-ghost use Rattle.tape.specs.Tapes.{tapeMost, rawAt, decoded, recordAt, firstBad};
-ghost use Rattle.tape.specs.Checks.{code, tapeResult};
+ghost use Rattle.tape.specs.Tapes.{rawAt, decoded, recordAt};
 
 pub const TAPE_MOST: usize = 4096;
 
@@ -27,14 +24,6 @@ pub enum Found {
     Refused(Refusal),
     PastEnd,
 }
-
-// What the check of a tape's records finds: nothing, or the first refusal and its record's index.
-pub enum Checked {
-    Fine,
-    Bad(Refusal, usize),
-}
-
-// ---- records
 
 // The bytes of the record that starts at byte `at`.
 fn raw_at(tape: &[u8], at: usize) -> Raw
@@ -78,7 +67,7 @@ pub fn event_at(tape: &[u8], at: usize) -> Event
 }
 
 // What the check finds of it.
-fn verdict_at(tape: &[u8], at: usize) -> Verdict
+pub fn verdict_at(tape: &[u8], at: usize) -> Verdict
     requires { ⌜ at + recordBytes ≤ length (now tape) ⌝ }
     ensures { λ r. ⌜ r ≡ verdictOf (decoded (now (tape .entry)) at) ⌝ }
 {
@@ -105,55 +94,5 @@ pub fn record_at(tape: &[u8], i: usize) -> Found
     match v {
         Verdict::Wrong(r) => Found::Refused(r),
         Verdict::Sound => Found::Means(event_at(tape, at)),
-    }
-}
-
-// ---- the check of all records
-
-fn check_records(tape: &[u8], n: usize) -> Checked
-    requires { ⌜ n * recordBytes ≤ length (now tape) ⌝ }
-    ensures { λ r. ⌜ r ≡ firstBad (now (tape .entry)) 0 n ⌝ }
-{
-    let mut i = 0;
-    while i < n {
-        let v = verdict_at(tape, i * RECORD_BYTES);
-        if let Verdict::Wrong(r) = v {
-            return Checked::Bad(r, i);
-        }
-        i += 1;
-    }
-    Checked::Fine
-}
-
-// ---- the check of a whole tape
-
-// The number of a refusal of record i.
-fn coded(r: Refusal, i: usize) -> u32
-    requires { ⌜ i < tapeMost / recordBytes ⌝ }
-    ensures { λ c. ⌜ c ≡ code r i ⌝ }
-{
-    256 * (i as u32) + events::number_of(r) as u32
-}
-
-// 0, or the refusal of a tape whose answers have `room` bytes: 4, 5 to 8, 9.
-pub fn check(tape: &[u8], room: usize) -> u32
-    ensures { λ r. ⌜ r ≡ tapeResult (now (tape .entry)) room ⌝ }
-{
-    if tape.len() % RECORD_BYTES != 0 {
-        return coded(Refusal::TapeLength, 0);
-    }
-    if TAPE_MOST < tape.len() {
-        return coded(Refusal::TapeLength, 0);
-    }
-    let n = tape.len() / RECORD_BYTES;
-    let c = check_records(tape, n);
-    match c {
-        Checked::Bad(r, i) => coded(r, i),
-        Checked::Fine => {
-            if ANSWER_BYTES * n <= room {
-                return 0;
-            }
-            coded(Refusal::AnswerLength, 0)
-        }
     }
 }

@@ -13,11 +13,12 @@ use Rattle.events.specs.declared.Refusal.the-variants.{ImageLength, ImageMark, 
 use Rattle.events.specs.Numbers.{numberOf}
 use Rattle.record.specs.Records.{recordBytes}
 use Rattle.answer.specs.Answers.{answerBytes}
-use Rattle.tape.specs.declared.Checked.{Checked}
-use Rattle.tape.specs.declared.Checked.the-variants.{Fine, Bad}
-use Rattle.tape.specs.Tapes.{tapeMost, fitting, records, firstBad}
-use Rattle.tape.specs.Checks.{code, afterRecords, tapeResult}
-use Rattle.tape.proofs.Checks.{index-below}
+use Rattle.checks.specs.declared.Checked.{Checked}
+use Rattle.checks.specs.declared.Checked.the-variants.{Fine, Bad}
+use Rattle.tape.specs.Tapes.{tapeMost, fitting, records}
+use Rattle.checks.specs.Checks.{firstBad}
+use Rattle.checks.specs.Checks.{code, afterRecords, tapeResult}
+use Rattle.checks.proofs.Checks.{index-below}
 use Rattle.transcript.specs.Transcript.{recordsMost, answersMost, codeOf}
 
 number-low : (r : Refusal) → numberOf r < 10

@@ -13,9 +13,11 @@ use Rattle.step.specs.Events.{stepOf}
 use Rattle.record.specs.declared.Decoded.the-variants.{Valid}
 use Rattle.record.specs.Records.{recordBytes}
 use Rattle.text.specs.Lines.{lineMost}
-use Rattle.tape.specs.declared.Checked.the-variants.{Fine}
-use Rattle.tape.specs.Tapes.{decoded, firstBad, events}
-use Rattle.tape.proofs.Tapes.{check-valid, event-valid, events-none}
+use Rattle.checks.specs.declared.Checked.the-variants.{Fine}
+use Rattle.tape.specs.Tapes.{decoded, events}
+use Rattle.checks.specs.Checks.{firstBad}
+use Rattle.tape.proofs.Tapes.{event-valid, events-none}
+use Rattle.checks.proofs.Walk.{check-valid}
 use Rattle.demands.proofs.Rule.{every-event-keeps-the-rule}
 use Rattle.demands.proofs.Records.{record-row, bytes-of}
 use Rattle.transcript.specs.Transcript.{recordsMost, enough, stepLine, linesOf}

@@ -7,9 +7,10 @@ use Rattle.device.specs.declared.Device.{Device}
 use Rattle.record.specs.Records.{recordBytes}
 use Rattle.answer.specs.Answers.{answerBytes}
 use Rattle.text.specs.Lines.{bytes, decimalIn, decimal, refusedLine}
-use Rattle.tape.specs.Tapes.{tapeMost, fitting, records, firstBad, events}
-use Rattle.tape.specs.Checks.{tapeResult}
-use Rattle.tape.proofs.Checks.{uneven, too-long}
+use Rattle.tape.specs.Tapes.{tapeMost, fitting, records, events}
+use Rattle.checks.specs.Checks.{firstBad}
+use Rattle.checks.specs.Checks.{tapeResult}
+use Rattle.checks.proofs.Checks.{uneven, too-long}
 use Rattle.transcript.specs.Transcript.{linesOf, codeOf, transcriptOf}
 
 -- "An empty input prints nothing."

@@ -12,10 +12,11 @@ use Rattle.device.specs.Whole.{freshDevice, imageRule}
 use Rattle.answer.specs.Answers.{answerBytes}
 use Rattle.text.specs.Lines.{lineMost, refusedLine, written, writtenLength, Counts}
 use Rattle.text.proofs.Whole.{counts, length-long}
-use Rattle.tape.specs.declared.Checked.the-variants.{Fine}
-use Rattle.tape.specs.Tapes.{fitting, records, firstBad, eventsOf}
-use Rattle.tape.specs.Checks.{tapeResult}
-use Rattle.tape.proofs.Checks.{passed}
+use Rattle.checks.specs.declared.Checked.the-variants.{Fine}
+use Rattle.tape.specs.Tapes.{fitting, records, eventsOf}
+use Rattle.checks.specs.Checks.{firstBad}
+use Rattle.checks.specs.Checks.{tapeResult}
+use Rattle.checks.proofs.Checks.{passed}
 use Rattle.demands.proofs.Accepted.{fresh-keeps-the-rule}
 use Rattle.transcript.specs.Transcript.{recordsMost, answersMost, enough, linesOf, codeOf, transcriptOf, printed, printedLength}
 use Rattle.transcript.proofs.Codes.{room-enough, code-low}

@@ -13,7 +13,7 @@ use Rattle.record.specs.Records.{recordBytes}
 use Rattle.answer.specs.Answers.{answerBytes}
 use Rattle.text.specs.Lines.{lineMost, lineOf, refusedLine}
 use Rattle.tape.specs.Tapes.{tapeMost, records, eventsOf}
-use Rattle.tape.specs.Checks.{tapeResult}
+use Rattle.checks.specs.Checks.{tapeResult}
 
 -- ---- sizes
 -- the records of the longest tape: 512

@@ -21,8 +21,9 @@ ghost use Rattle.events.specs.Ranges.{inRange};
 ghost use Rattle.device.specs.Whole.{freshDevice, imageRule};
 ghost use Rattle.step.specs.Events.{stepOf};
 ghost use Rattle.text.specs.Lines.{lineMost, Counts};
-ghost use Rattle.tape.specs.declared.Checked.the-variants.{Fine};
-ghost use Rattle.tape.specs.Tapes.{fitting, records, firstBad, eventsOf};
+ghost use Rattle.checks.specs.declared.Checked.the-variants.{Fine};
+ghost use Rattle.tape.specs.Tapes.{fitting, records, eventsOf};
+ghost use Rattle.checks.specs.Checks.{firstBad};
 ghost use Rattle.transcript.specs.Transcript.{recordsMost, enough, stepLine, linesOf, transcriptOf, printed, printedLength};
 
 // The records of the longest tape, the bytes of their answers, and of their lines.
@@ -122,7 +123,7 @@ fn print(start: Device, tape: &[u8], out: &mut [u8], lending: bool) -> usize
     if out.len() < ENOUGH {
         return 0;
     }
-    let c = tape::check(tape, ANSWERS_MOST);
+    let c = checks::check(tape, ANSWERS_MOST);
     if c != 0 {
         return text::refused(out, (c % 256) as u8, (c / 256 % 65536) as u16);
     }

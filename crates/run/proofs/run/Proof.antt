@@ -6,8 +6,8 @@ use lib.ListN.{length}
 use Rattle.image.specs.Image.{storedOver}
 use Rattle.events.specs.declared.Refusal.{Refusal}
 use Rattle.events.specs.Numbers.{numberOf}
-use Rattle.tape.specs.Checks.{code}
-use Rattle.tape.proofs.Checks.{passed, code-above}
+use Rattle.checks.specs.Checks.{code}
+use Rattle.checks.proofs.Checks.{passed, code-above}
 use Rattle.run.proofs.Results.{by-image, by-tape, refused, done}
 use Rattle.run.proofs.run.Statement.{statement}
 use Rattle.run.proofs.run.Tie as tie

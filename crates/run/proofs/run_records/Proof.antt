@@ -15,7 +15,7 @@ use Rattle.record.specs.Records.{recordBytes}
 use Rattle.tape.specs.Tapes.{decoded}
 use Rattle.answer.specs.Answers.{answerBytes, answerOf}
 use Rattle.run.proofs.Going.{Going, going-begins, going-on, going-ends}
-use Rattle.tape.proofs.Tapes.{check-fine}
+use Rattle.checks.proofs.Walk.{check-fine}
 use Rattle.run.proofs.run_records.Statement.{statement}
 use Rattle.run.proofs.run_records.Tie as tie
 

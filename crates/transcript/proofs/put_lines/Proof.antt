@@ -20,7 +20,7 @@ use Rattle.record.proofs.Verdicts.{Holds}
 use Rattle.text.specs.Lines.{lineMost}
 use Rattle.tape.specs.declared.Found.the-variants.{Means}
 use Rattle.tape.specs.Tapes.{fitting, records, decoded, foundIn, recordAt, eventsOf}
-use Rattle.tape.proofs.Tapes.{check-fine}
+use Rattle.checks.proofs.Walk.{check-fine}
 use Rattle.demands.proofs.Records.{record-row, range-of}
 use Rattle.transcript.specs.Transcript.{recordsMost, enough, stepLine, linesOf}
 use Rattle.transcript.proofs.Codes.{few}

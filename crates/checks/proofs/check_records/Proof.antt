@@ -1,14 +1,14 @@
--- `tape::check_records` meets its contract. The loop's invariant: the check of all is that of the records from i on.
+-- `checks::check_records` meets its contract. The loop's invariant: the check of all is that of the records from i on.
 -- The measure is how many are left. Assumes nothing.
 use Prim.Native.Nat.{_-_, _≤_}
 use mathlib.Core.Path.{_≡_, sym, ap, _∙_}
 use native.Mathlib.Omega.{arith}
 use borrow.Author.Needs.{needs}
-use Rattle.tape.specs.Tapes.{firstBad}
-use Rattle.tape.proofs.Tapes.{check-bad, check-valid, check-none}
+use Rattle.checks.specs.Checks.{firstBad}
+use Rattle.checks.proofs.Walk.{check-bad, check-valid, check-none}
 use Rattle.record.proofs.Verdicts.{sound, wrong}
-use Rattle.tape.proofs.check_records.Statement.{statement}
-use Rattle.tape.proofs.check_records.Tie as tie
+use Rattle.checks.proofs.check_records.Statement.{statement}
+use Rattle.checks.proofs.check_records.Tie as tie
 
 abbrev Inv-loop : tie.InvT-loop
 Inv-loop tape n i₀ i = (i ≤ n) × (firstBad tape i (n - i) ≡ firstBad tape 0 n)

@@ -1,10 +1,10 @@
--- `tape::check` meets its contract, refusal by refusal. Assumes nothing.
+-- `checks::check` meets its contract, refusal by refusal. Assumes nothing.
 use mathlib.Core.Path.{sym, _∙_}
 use native.Mathlib.Omega.{arith}
 use borrow.Author.Needs.{needs}
-use Rattle.tape.proofs.Checks.{index-below, uneven, too-long, bad, roomy, cramped}
-use Rattle.tape.proofs.check.Statement.{statement}
-use Rattle.tape.proofs.check.Tie as tie
+use Rattle.checks.proofs.Checks.{index-below, uneven, too-long, bad, roomy, cramped}
+use Rattle.checks.proofs.check.Statement.{statement}
+use Rattle.checks.proofs.check.Tie as tie
 
 coded-requires : tie.Need-coded-requires
 coded-requires c κs = search needs

@@ -11,12 +11,13 @@ use Rattle.events.specs.declared.Refusal.{Refusal}
 use Rattle.events.specs.declared.Refusal.the-variants.{ImageLength, ImageMark, ImageRule, TapeLength, RecordMark, Kind, Operand, Serial, AnswerLength}
 use Rattle.record.specs.declared.Decoded.{Decoded}
 use Rattle.record.specs.declared.Decoded.the-variants.{Valid, Invalid}
-use Rattle.tape.specs.declared.Checked.{Checked}
-use Rattle.tape.specs.declared.Checked.the-variants.{Fine, Bad}
+use Rattle.checks.specs.declared.Checked.{Checked}
+use Rattle.checks.specs.declared.Checked.the-variants.{Fine, Bad}
 use Rattle.record.specs.Records.{recordBytes}
-use Rattle.tape.specs.Tapes.{records, decoded, firstBad·at, firstBad}
+use Rattle.tape.specs.Tapes.{records, decoded}
+use Rattle.checks.specs.Checks.{firstBad·at, firstBad}
 use Rattle.tape.specs.Tapes.{tapeMost, fitting}
-use Rattle.tape.specs.Checks.{code, afterRecords, tapeResult}
+use Rattle.checks.specs.Checks.{code, afterRecords, tapeResult}
 use Rattle.answer.specs.Answers.{answerBytes}
 
 -- a refusal's number is not 0

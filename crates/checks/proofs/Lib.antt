@@ -1,0 +1,3 @@
+-- The laws of the check of a tape.
+pub mod Walk
+pub mod Checks

@@ -3,7 +3,7 @@ use Prim.Native.Nat.{ℕ, _+_, _*_}
 use mathlib.Core.List.{List, [], _∷_, _++_}
 use Rattle.bits.specs.Bits.{bitValue}
 use Rattle.bits.specs.Bytes.{four}
-use Rattle.timers.specs.declared.Timeouts.{Timeouts}
+use Rattle.timeouts.specs.declared.Timeouts.{Timeouts}
 use Rattle.events.specs.Numbers.{classOf, valueOf}
 use Rattle.device.specs.declared.Stepped.{Stepped}
 use Rattle.device.specs.Whole.{irqOf, shownOutputs}

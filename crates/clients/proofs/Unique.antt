@@ -37,12 +37,12 @@ use Rattle.interrupts.proofs.Interrupts.keeps_rule.Reads as interrupts-Interrup
 use Rattle.requests.proofs.highest.Reads as interrupts-Interrupts-highest
 use Rattle.requests.proofs.irq.Reads as interrupts-Interrupts-irq
 use Rattle.requests.proofs.acknowledge.Reads as interrupts-Interrupts-acknowledge
-use Rattle.timers.proofs.Timeouts.zero.Reads as timers-Timeouts-zero
-use Rattle.timers.proofs.Timeouts.channels.Reads as timers-Timeouts-channels
+use Rattle.timeouts.proofs.Timeouts.zero.Reads as timeouts-Timeouts-zero
+use Rattle.timeouts.proofs.Timeouts.channels.Reads as timeouts-Timeouts-channels
 use Rattle.timers.proofs.Timers.fresh.Reads as timers-Timers-fresh
 use Rattle.timers.proofs.Timers.reset.Reads as timers-Timers-reset
-use Rattle.timers.proofs.Timers.clocks.Reads as timers-Timers-clocks
-use Rattle.timers.proofs.Timers.count.Reads as timers-Timers-count
+use Rattle.timeouts.proofs.clocks.Reads as timeouts-clocks
+use Rattle.timeouts.proofs.count.Reads as timeouts-count
 use Rattle.timers.proofs.Timers.tcdcr.Reads as timers-Timers-tcdcr
 use Rattle.timers.proofs.Timers.read.Reads as timers-Timers-read
 use Rattle.timers.proofs.Timers.write.Reads as timers-Timers-write
@@ -197,11 +197,11 @@ interrupts-Interrupts-acknowledge-fixed : FixesResult interrupts-Interrupts-ackn
 interrupts-Interrupts-acknowledge-fixed κs a x y s t p q = one p q
 
 -- ---- timers
-timers-Timeouts-zero-fixed : FixesResult timers-Timeouts-zero.Learnt
-timers-Timeouts-zero-fixed κs a x y s t p q = one p q
+timeouts-Timeouts-zero-fixed : FixesResult timeouts-Timeouts-zero.Learnt
+timeouts-Timeouts-zero-fixed κs a x y s t p q = one p q
 
-timers-Timeouts-channels-fixed : FixesResult timers-Timeouts-channels.Learnt
-timers-Timeouts-channels-fixed κs a x y s t p q = one p q
+timeouts-Timeouts-channels-fixed : FixesResult timeouts-Timeouts-channels.Learnt
+timeouts-Timeouts-channels-fixed κs a x y s t p q = one p q
 
 timers-Timers-fresh-fixed : FixesResult timers-Timers-fresh.Learnt
 timers-Timers-fresh-fixed κs a x y s t p q = one p q
@@ -209,11 +209,11 @@ timers-Timers-fresh-fixed κs a x y s t p q = one p q
 timers-Timers-reset-fixed : FixesResult timers-Timers-reset.Learnt
 timers-Timers-reset-fixed κs a x y s t p q = one p q
 
-timers-Timers-clocks-fixed : FixesResult timers-Timers-clocks.Learnt
-timers-Timers-clocks-fixed κs a x y s t p q = one p q
+timeouts-clocks-fixed : FixesResult timeouts-clocks.Learnt
+timeouts-clocks-fixed κs a x y s t p q = one p q
 
-timers-Timers-count-fixed : FixesResult timers-Timers-count.Learnt
-timers-Timers-count-fixed κs a x y s t p q = one p q
+timeouts-count-fixed : FixesResult timeouts-count.Learnt
+timeouts-count-fixed κs a x y s t p q = one p q
 
 timers-Timers-tcdcr-fixed : FixesResult timers-Timers-tcdcr.Learnt
 timers-Timers-tcdcr-fixed κs a x y s t p q = one p q

@@ -5,9 +5,9 @@ use mathlib.Core.List.{List, [], _∷_}
 use native.Mathlib.Nat.{div-add-mod', div-div-eq-div-mul, mod-eq-of-lt}
 use native.Mathlib.Omega.{arith}
 use lib.ListN.{getD}
-use Rattle.timers.specs.declared.Timeouts.{Timeouts}
+use Rattle.timeouts.specs.declared.Timeouts.{Timeouts}
 use Rattle.device.specs.declared.Stepped.{Stepped}
-use Rattle.timers.specs.Clocks.{addTimeouts}
+use Rattle.timeouts.specs.Clocks.{addTimeouts}
 use Rattle.bits.specs.Bytes.{number}
 use Rattle.bits.specs.Bytes.{four}
 use Rattle.answer.specs.Answers.{answerOf}

@@ -25,7 +25,7 @@ use Rattle.interrupts.specs.Interrupts.{clearInterrupts, kept, raised, vectorWr
 use Rattle.requests.specs.Requests.{highest, given, acknowledgedBy, acknowledged}
 use Rattle.timers.specs.declared.Timers.{Timers}
 use Rattle.timers.specs.declared.TimerRegister.the-variants.{Tacr, Tbcr, Tcdcr, Tadr, Tbdr, Tcdr, Tddr}
-use Rattle.timers.specs.Clocks.{timeoutRaises}
+use Rattle.timeouts.specs.Clocks.{timeoutRaises}
 use Rattle.timers.specs.Registers.{timerWritten, resetTimers}
 use Rattle.lines.specs.declared.Lines.{Lines}
 use Rattle.lines.specs.declared.LineRegister.the-variants.{Gpdr, Aer, Ddr}

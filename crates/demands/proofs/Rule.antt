@@ -7,7 +7,8 @@ use Rattle.interrupts.specs.declared.Interrupts.{Interrupts}
 use Rattle.interrupts.proofs.Rule.{Ruled, ruled, rule-kept, raise-ruled, written-ruled, clear-ruled}
 use Rattle.requests.proofs.Rule.{acknowledged-ruled}
 use Rattle.timers.specs.declared.Timers.{Timers}
-use Rattle.timers.proofs.Rule.{AllSettled, all-settled, timers-ruled, pulses-settle, clocks-settle, reset-settles, written-settles}
+use Rattle.timers.proofs.Rule.{AllSettled, all-settled, timers-ruled, reset-settles, written-settles}
+use Rattle.timeouts.proofs.Rule.{pulses-settle, clocks-settle}
 use Rattle.lines.specs.declared.Lines.{Lines}
 use Rattle.lines.specs.declared.TimerInput.the-variants.{Tai, Tbi}
 use Rattle.lines.specs.declared.LineRegister.the-variants.{Gpdr, Aer, Ddr}

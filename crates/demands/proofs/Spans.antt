@@ -13,7 +13,7 @@ use Rattle.device.specs.declared.Device.{Device}
 use Rattle.events.specs.declared.Event.the-variants.{Clocks}
 use Rattle.events.specs.declared.Answer.{Answer}
 use Rattle.device.specs.declared.Stepped.{Stepped}
-use Rattle.timers.specs.Clocks.{none}
+use Rattle.timeouts.specs.Clocks.{none}
 use Rattle.step.specs.Clocks.{clockTimeouts, clockDevice, timeoutsDevice}
 use Rattle.device.specs.Whole.{irqOf, shownOutputs}
 use Rattle.step.specs.Events.{stepOf}

@@ -4,13 +4,13 @@ use Prim.Native.Nat.{ℕ, _+_}
 use mathlib.Core.Path.{_≡_}
 use mathlib.Core.List.{List, [], _∷_, _++_}
 use lib.ListN.{replicate}
-use Rattle.timers.specs.declared.Timeouts.{Timeouts}
+use Rattle.timeouts.specs.declared.Timeouts.{Timeouts}
 use Rattle.device.specs.declared.Device.{Device}
 use Rattle.events.specs.declared.Event.{Event}
 use Rattle.events.specs.declared.Event.the-variants.{Clocks}
 use Rattle.device.specs.declared.Stepped.{Stepped}
 use Rattle.events.specs.declared.Answer.the-variants.{Done}
-use Rattle.timers.specs.Clocks.{none, addTimeouts}
+use Rattle.timeouts.specs.Clocks.{none, addTimeouts}
 use Rattle.step.specs.Clocks.{clocksDevice, timeoutsDevice}
 use Rattle.step.specs.Events.{stepOf}
 use Rattle.answer.specs.Answers.{answerOf}

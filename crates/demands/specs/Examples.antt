@@ -19,7 +19,7 @@ use Rattle.events.specs.declared.Register.the-variants.{OfLines, OfInterrupts, 
 use Rattle.lines.specs.declared.TimerInput.the-variants.{Tai}
 use Rattle.events.specs.declared.Event.the-variants.{Read, Write, Input, Clocks, Acknowledge}
 use Rattle.events.specs.declared.Answer.the-variants.{Data, Vector, PassedOn, Held}
-use Rattle.timers.specs.Clocks.{none}
+use Rattle.timeouts.specs.Clocks.{none}
 use Rattle.device.specs.Whole.{readOf, withInterrupts}
 use Rattle.device.specs.Whole.{freshDevice, irqOf}
 use Rattle.step.specs.Events.{stepOf}

@@ -3,7 +3,7 @@ use mathlib.Core.Path.{_≡_}
 use mathlib.Core.List.{List, [], _∷_}
 use Rattle.channels.specs.Raises.{Raises, raises, raisedBy}
 use Rattle.interrupts.specs.Interrupts.{raised}
-use Rattle.timers.specs.Clocks.{timeoutRaises}
+use Rattle.timeouts.specs.Clocks.{timeoutRaises}
 use Rattle.lines.specs.declared.LineRegister.the-variants.{Gpdr, Aer, Ddr}
 use Rattle.lines.specs.Registers.{lineWritten, withLevel, withInput}
 use Rattle.events.specs.declared.Register.the-variants.{OfLines, OfInterrupts, OfTimers}

@@ -6,8 +6,8 @@ use Rattle.timer.specs.Timers.{eventCount, pulseWidth}
 use Rattle.channels.specs.Raises.{Raises, raisedBy}
 use Rattle.interrupts.specs.Interrupts.{raised}
 use Rattle.timers.specs.declared.Timers.{Timers}
-use Rattle.timers.specs.declared.Timeouts.{Timeouts}
-use Rattle.timers.specs.Clocks.{timeoutRaises, pulseTimers, pulseTimeouts, none}
+use Rattle.timeouts.specs.declared.Timeouts.{Timeouts}
+use Rattle.timeouts.specs.Clocks.{timeoutRaises, pulseTimers, pulseTimeouts, none}
 use Rattle.lines.specs.declared.Lines.{Lines}
 use Rattle.lines.specs.declared.TimerInput.{TimerInput}
 use Rattle.lines.specs.declared.TimerInput.the-variants.{Tai, Tbi}

@@ -6,7 +6,7 @@ use events::Register;
 use interrupts::Interrupts;
 use lines::Lines;
 use lines::TimerInput;
-use timers::Timeouts;
+use timeouts::Timeouts;
 use timers::Timers;
 ghost use mathlib.Core.Path.{_≡_};
 ghost use Rattle.device.specs.Whole.{resetDevice, freshDevice, irqOf, shownOutputs, readOf, imageRule};
@@ -96,7 +96,7 @@ impl Device {
         let a = t.a;
         let b = t.b;
         let raised = l.raises(after, a.measures_pulses(), b.measures_pulses());
-        let u = t.count(counts_a, counts_b);
+        let u = timeouts::count(t, counts_a, counts_b);
         let next = u.timers;
         let n = u.timeouts;
         let d = Device {

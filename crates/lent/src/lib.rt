@@ -4,7 +4,7 @@ use device::Device;
 use events::Answer;
 use events::Event;
 use events::Refusal;
-use timers::Timeouts;
+use timeouts::Timeouts;
 ghost use mathlib.Core.Path.{_≡_};
 ghost use Rattle.lent.specs.Handling.{handledOf};
 
@@ -56,7 +56,7 @@ pub fn event(d: &mut Device, e: Event) -> Outcome
 
 // The same by value, over a local that it lends: its callers lend nothing.
 pub fn event_by_value(d: Device, e: Event) -> Handled
-    ensures { λ r. ⌜ r ≡ handledOf d e ⌝ }
+    ensures { λ h. ⌜ h ≡ handledOf d e ⌝ }
 {
     let mut n = d;
     let o = event(&mut n, e);

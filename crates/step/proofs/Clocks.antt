@@ -7,9 +7,9 @@ use Rattle.channels.specs.Raises.{raisedBy}
 use Rattle.interrupts.specs.Interrupts.{raised}
 use Rattle.interrupts.proofs.Raises.{raise-raise, raise-none}
 use Rattle.timers.specs.declared.Timers.{Timers}
-use Rattle.timers.specs.declared.Timeouts.{Timeouts}
-use Rattle.timers.specs.Clocks.{addTimeouts, timeoutRaises, timersAfter, timeoutsAfter}
-use Rattle.timers.proofs.Raises.{timeouts-add-raises, none-raises}
+use Rattle.timeouts.specs.declared.Timeouts.{Timeouts}
+use Rattle.timeouts.specs.Clocks.{addTimeouts, timeoutRaises, timersAfter, timeoutsAfter}
+use Rattle.timeouts.proofs.Raises.{timeouts-add-raises, none-raises}
 use Rattle.lines.specs.declared.TimerInput.the-variants.{Tai, Tbi}
 use Rattle.lines.specs.Signals.{inputActive}
 use Rattle.device.specs.declared.Device.{Device}

@@ -3,8 +3,8 @@ use Prim.Native.Nat.{ℕ, zero, suc}
 use Rattle.channels.specs.Raises.{raisedBy}
 use Rattle.interrupts.specs.Interrupts.{raised}
 use Rattle.timers.specs.declared.Timers.{Timers}
-use Rattle.timers.specs.declared.Timeouts.{Timeouts}
-use Rattle.timers.specs.Clocks.{none, addTimeouts, timeoutRaises, eachClocked, eachReloads}
+use Rattle.timeouts.specs.declared.Timeouts.{Timeouts}
+use Rattle.timeouts.specs.Clocks.{none, addTimeouts, timeoutRaises, eachClocked, eachReloads}
 use Rattle.lines.specs.declared.TimerInput.the-variants.{Tai, Tbi}
 use Rattle.lines.specs.Signals.{inputActive}
 use Rattle.device.specs.declared.Device.{Device}

@@ -6,7 +6,7 @@ use Rattle.requests.specs.declared.Reply.the-variants.{Vector as GivenVector, P
 use Rattle.channels.specs.Raises.{raises, raisedBy}
 use Rattle.interrupts.specs.Interrupts.{raised, interruptWritten}
 use Rattle.requests.specs.Requests.{acknowledged}
-use Rattle.timers.specs.Clocks.{none}
+use Rattle.timeouts.specs.Clocks.{none}
 use Rattle.timers.specs.Registers.{timerWritten}
 use Rattle.lines.specs.Registers.{withLevel, withInput, lineWritten}
 use Rattle.events.specs.declared.Event.{Event}

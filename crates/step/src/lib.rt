@@ -10,7 +10,7 @@ use lines::LineRegister;
 use lines::Lines;
 use lines::TimerInput;
 use requests::Reply;
-use timers::Timeouts;
+use timeouts::Timeouts;
 ghost use mathlib.Core.Path.{_≡_};
 ghost use Rattle.events.specs.declared.Event.the-variants.{Write, Clocks, Acknowledge};
 ghost use Rattle.events.specs.declared.Register.the-variants.{OfLines};
@@ -67,7 +67,8 @@ fn begin_clocks(d: Device, n: u32) -> Begun
     let l = d.lines;
     let i = d.interrupts;
     let t = d.timers;
-    let u = t.clocks(
+    let u = timeouts::clocks(
+        t,
         l.input_is_active(TimerInput::Tai),
         l.input_is_active(TimerInput::Tbi),
         n,

@@ -3,7 +3,7 @@ use mathlib.Core.Path.{_≡_, refl}
 use mathlib.Core.Bool.{true, false}
 use Prim.Native.Nat.{ℕ}
 use Rattle.events.specs.declared.Answer.the-variants.{Done, Data, Vector}
-use Rattle.timers.specs.declared.Timeouts.{Timeouts}
+use Rattle.timeouts.specs.declared.Timeouts.{Timeouts}
 use Rattle.text.specs.Lines.{bytes, decimalIn, decimal, hexByte, middleOf, countsOf, lineOf, refusedLine}
 
 -- so many timeouts of timer C, none of the others

@@ -6,7 +6,7 @@ use native.Mathlib.Omega.{arith}
 use lib.ListN.{length, length-append}
 use Rattle.events.specs.declared.Answer.{Answer}
 use Rattle.events.specs.declared.Answer.the-variants.{Done, Data, Vector, PassedOn, Held}
-use Rattle.timers.specs.declared.Timeouts.{Timeouts}
+use Rattle.timeouts.specs.declared.Timeouts.{Timeouts}
 use Rattle.text.specs.Lines.{bytes, decimal, hexByte, spaced, ended, middleOf, countsOf, lineOf, refusedLine, lineMost}
 use Rattle.text.specs.Private.{indexMost, middleBytes, countMost, countsMost}
 use Rattle.text.proofs.Decimal.{at-most}

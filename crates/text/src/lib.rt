@@ -2,7 +2,7 @@
 // stands in specs/Lines.antt. A buffer of LINE_MOST bytes holds every line; a shorter one stays as it
 // was.
 use events::Answer;
-use timers::Timeouts;
+use timeouts::Timeouts;
 ghost use mathlib.Core.Path.{_≡_};
 ghost use mathlib.Core.List.{[], _∷_, _++_};
 ghost use Prim.Native.Nat.{_+_, _≤_, _<_};

@@ -1,3 +1,2 @@
 -- The laws of the four timers that callers use.
-pub mod Raises
 pub mod Rule

@@ -1,20 +1,18 @@
 -- What happens to the timers keeps their part of the image rule, timer by timer. Assumes nothing.
 use Prim.Native.Nat.{ℕ, _%_, _/_, _≤_}
 use mathlib.Core.Path.{_≡_}
-use mathlib.Core.Bool.{Bool, true, false, cond}
+use mathlib.Core.Bool.{Bool, true, false}
 use native.Mathlib.Omega.{arith}
-use lib.Dec.{leb, lit≤}
+use lib.Dec.{leb}
 use borrow.Author.Tests.{leb-true, le-leb}
 use Rattle.bits.proofs.Bits.{halves, joined}
 use Rattle.timer.specs.declared.Timer.{Timer}
-use Rattle.timer.specs.Timers.{clocks, pulsed, controlled, reloadWritten, resetTimer, positionRule}
-use Rattle.timer.proofs.Pulsed.{pulsed-mode}
-use Rattle.timer.proofs.Rule.{pulsed-ruled, controlled-ruled, written-ruled, reset-ruled, clocks-ruled, clocks-mode}
+use Rattle.timer.specs.Timers.{controlled, reloadWritten, resetTimer, positionRule}
+use Rattle.timer.proofs.Rule.{controlled-ruled, written-ruled, reset-ruled}
 use Rattle.channels.specs.Channels.{has}
 use Rattle.timers.specs.declared.Timers.{Timers}
 use Rattle.timers.specs.declared.TimerRegister.{TimerRegister}
 use Rattle.timers.specs.declared.TimerRegister.the-variants.{Tacr, Tbcr, Tcdcr, Tadr, Tbdr, Tcdr, Tddr}
-use Rattle.timers.specs.Clocks.{timersAfter, pulseTimers}
 use Rattle.timers.specs.Registers.{timerWritten, resetTimers, timerRule, timersRule}
 
 -- ---- one timer, whose modes end at `most`
@@ -31,14 +29,6 @@ unfolding timerRule
 timer-ruled most t s = joined _ _ (le-leb _ _ (s .mode)) (s .position)
 
 module _ (most : ℕ) (t : Timer) (s : Settled most t) where
-  -- a pulse or none
-  perhaps-settled : (b : Bool) → Settled most (cond b (pulsed t) t)
-  perhaps-settled true = record { mode = rw (pulsed-mode t) (s .mode); position = pulsed-ruled t (s .position) }
-  perhaps-settled false = s
-
-  clocks-settled : (active : Bool) (n : ℕ) → Settled most (clocks active n t)
-  clocks-settled active n = record { mode = rw (clocks-mode active n t) (s .mode); position = clocks-ruled active n t (s .position) }
-
   controlled-settled : (mode : ℕ) (low : Bool) → mode ≤ most → Settled most (controlled mode low t)
   unfolding controlled
   controlled-settled mode low h = record { mode = h; position = controlled-ruled t (s .position) mode low }
@@ -71,17 +61,6 @@ timers-ruled t s =
     joined _ _ (joined _ _ (timer-ruled 15 (t .a) (s .a)) (timer-ruled 15 (t .b) (s .b))) (joined _ _ (timer-ruled 7 (t .c) (s .c)) (timer-ruled 7 (t .d) (s .d)))
 
 module _ (t : Timers) (s : AllSettled t) where
-  pub pulses-settle : (a b : Bool) → AllSettled (pulseTimers a b t)
-  pulses-settle a b = record { a = perhaps-settled 15 (t .a) (s .a) a; b = perhaps-settled 15 (t .b) (s .b) b; c = s .c; d = s .d }
-
-  pub clocks-settle : (tai tbi : Bool) (n : ℕ) → AllSettled (timersAfter tai tbi n t)
-  clocks-settle tai tbi n = record {
-    a = clocks-settled 15 (t .a) (s .a) tai n;
-    b = clocks-settled 15 (t .b) (s .b) tbi n;
-    c = clocks-settled 7 (t .c) (s .c) false n;
-    d = clocks-settled 7 (t .d) (s .d) false n;
-  }
-
   pub reset-settles : AllSettled (resetTimers t)
   reset-settles = record { a = reset-settled 15 (t .a) (s .a); b = reset-settled 15 (t .b) (s .b); c = reset-settled 7 (t .c) (s .c); d = reset-settled 7 (t .d) (s .d) }
 

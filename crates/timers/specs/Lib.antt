@@ -1,3 +1,2 @@
--- The rules of the four timers together.
-pub mod Clocks
+-- The timers' registers.
 pub mod Registers

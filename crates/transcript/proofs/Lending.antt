@@ -3,7 +3,7 @@ use Prim.Native.Nat.{ℕ}
 use mathlib.Core.Path.{_≡_, ap, _∙_}
 use mathlib.Core.Bool.{true}
 use native.Mathlib.Omega.{arith}
-use Rattle.timers.specs.declared.Timeouts.{Timeouts}
+use Rattle.timeouts.specs.declared.Timeouts.{Timeouts}
 use Rattle.events.specs.declared.Event.{Event}
 use Rattle.events.specs.declared.Answer.{Answer}
 use Rattle.events.specs.declared.Refusal.{Refusal}

@@ -11,7 +11,7 @@ use record::RECORD_BYTES;
 use tape::Found;
 use tape::TAPE_MOST;
 use text::LINE_MOST;
-use timers::Timeouts;
+use timeouts::Timeouts;
 ghost use mathlib.Core.Path.{_≡_};
 ghost use mathlib.Core.Bool.{true};
 ghost use mathlib.Core.List.{_++_};

@@ -7,9 +7,9 @@ use Rattle.step.specs.declared.Begun.{Begun}
 use Rattle.step.specs.Events.{stepOf}
 use Rattle.device.specs.declared.Device.{Device}
 use Rattle.events.specs.declared.Answer.the-variants.{Done}
-use Rattle.timers.specs.Clocks.{timeoutRaises, clockedBy}
-use Rattle.timers.specs.declared.Advanced.{Advanced}
-use Rattle.timers.specs.declared.Timeouts.{Timeouts}
+use Rattle.timeouts.specs.Clocks.{timeoutRaises, clockedBy}
+use Rattle.timeouts.specs.declared.Advanced.{Advanced}
+use Rattle.timeouts.specs.declared.Timeouts.{Timeouts}
 use Rattle.interrupts.specs.Interrupts.{raised}
 use Rattle.channels.specs.Raises.{raisedBy}
 use mathlib.Core.Bool.{Bool}

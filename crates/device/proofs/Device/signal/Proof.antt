@@ -4,9 +4,9 @@ use borrow.Author.Needs.{needs}
 use Rattle.device.specs.Signals.{measuring, signalTimers, signalTimeouts, changeRaises, signalled}
 use Rattle.events.specs.declared.Answer.the-variants.{Done}
 use Rattle.lines.specs.Signals.{signalRaises, ofInputs}
-use Rattle.timers.specs.Clocks.{timeoutRaises, pulsedBy}
-use Rattle.timers.specs.declared.Advanced.{Advanced}
-use Rattle.timers.specs.declared.Timeouts.{Timeouts}
+use Rattle.timeouts.specs.Clocks.{timeoutRaises, pulsedBy}
+use Rattle.timeouts.specs.declared.Advanced.{Advanced}
+use Rattle.timeouts.specs.declared.Timeouts.{Timeouts}
 use Rattle.channels.proofs.Raises.{raised-by-parts}
 use Rattle.interrupts.specs.Interrupts.{raised}
 use Rattle.channels.specs.Raises.{raisedBy}

@@ -10,8 +10,8 @@ use Rattle.channels.specs.declared.Channel.{Channel}
 use Rattle.channels.specs.Channels.{setOf, timerA, timerB, timerC, timerD}
 use Rattle.channels.specs.Raises.{onlyIf, raisedBy}
 use Rattle.channels.proofs.Sets.{or-swap}
-use Rattle.timers.specs.declared.Timeouts.{Timeouts}
-use Rattle.timers.specs.Clocks.{none, addTimeouts, timeoutRaises}
+use Rattle.timeouts.specs.declared.Timeouts.{Timeouts}
+use Rattle.timeouts.specs.Clocks.{none, addTimeouts, timeoutRaises}
 
 positive : (m n : ℕ) → (ltb 0 m || ltb 0 n) ≡ ltb 0 (m + n)
 positive m n = go (ltb 0 m) (ltb 0 n) refl refl

@@ -1,9 +1,9 @@
--- `Timers::count` meets its contract. Assumes nothing.
+-- `timeouts::count` meets its contract. Assumes nothing.
 use mathlib.Core.Path.{_∙_}
 use mathlib.Core.Bool.{cond, _&&_}
 use borrow.Author.Needs.{needs}
-use Rattle.timers.proofs.Timers.count.Statement.{statement}
-use Rattle.timers.proofs.Timers.count.Tie as tie
+use Rattle.timeouts.proofs.count.Statement.{statement}
+use Rattle.timeouts.proofs.count.Tie as tie
 
 returns : tie.Need-returns
 returns c =
@@ -11,7 +11,7 @@ returns c =
     let due-a = c .before .before .before .before .before .before .both .ensures ∙ (λ k. a .a && c .before .before .before .before .before .before .before .is-due .ensures k) in
     let due-b = c .before .before .before .both2 .ensures ∙ (λ k. a .b && c .before .before .before .before .is-due2 .ensures k) in
     λ k. record {
-      timers = record { a = c .before .pulse-if .ensures k; b = c .pulse-if2 .ensures k; c = a .self .c; d = a .self .d };
+      timers = record { a = c .before .pulse-if .ensures k; b = c .pulse-if2 .ensures k; c = a .t .c; d = a .t .d };
       timeouts = record {
         a = (c .before .before .before .before .before .once .ensures ∙ (λ i. cond (due-a i) 1 0)) k;
         b = (c .before .before .once2 .ensures ∙ (λ i. cond (due-b i) 1 0)) k;

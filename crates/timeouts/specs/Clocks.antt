@@ -5,9 +5,9 @@ use mathlib.Core.List.{List, [], _∷_}
 use Rattle.timer.specs.Timers.{timeout, pulsed, clocked, reloads, clocks, timeouts}
 use Rattle.channels.specs.Channels.{timerA, timerB, timerC, timerD}
 use Rattle.channels.specs.Raises.{Raises, raises}
 use Rattle.timers.specs.declared.Timers.{Timers}
-use Rattle.timers.specs.declared.Timeouts.{Timeouts}
-use Rattle.timers.specs.declared.Advanced.{Advanced}
+use Rattle.timeouts.specs.declared.Timeouts.{Timeouts}
+use Rattle.timeouts.specs.declared.Advanced.{Advanced}
 
 -- ---- timeouts
 abbrev pub none : Timeouts

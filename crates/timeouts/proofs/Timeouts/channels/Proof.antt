@@ -3,8 +3,8 @@ use mathlib.Core.Path.{sym, ap₂, _∙_}
 use borrow.Author.Needs.{needs}
 use lib.Bits.{bitOr, or-zero-r}
 use Rattle.channels.specs.Raises.{raisedBy}
-use Rattle.timers.proofs.Timeouts.channels.Statement.{statement}
-use Rattle.timers.proofs.Timeouts.channels.Tie as tie
+use Rattle.timeouts.proofs.Timeouts.channels.Statement.{statement}
+use Rattle.timeouts.proofs.Timeouts.channels.Tie as tie
 
 returns : tie.Need-returns
 unfolding raisedBy

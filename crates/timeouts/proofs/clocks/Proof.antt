@@ -1,7 +1,7 @@
--- `Timers::clocks` meets its contract, timer by timer. Assumes nothing.
+-- `timeouts::clocks` meets its contract, timer by timer. Assumes nothing.
 use borrow.Author.Needs.{needs}
-use Rattle.timers.proofs.Timers.clocks.Statement.{statement}
-use Rattle.timers.proofs.Timers.clocks.Tie as tie
+use Rattle.timeouts.proofs.clocks.Statement.{statement}
+use Rattle.timeouts.proofs.clocks.Tie as tie
 
 returns : tie.Need-returns
 returns c =

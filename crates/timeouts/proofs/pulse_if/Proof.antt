@@ -1,7 +1,7 @@
--- `timers::pulse_if` meets its contract. Assumes nothing.
+-- `timeouts::pulse_if` meets its contract. Assumes nothing.
 use borrow.Author.Needs.{needs}
-use Rattle.timers.proofs.pulse_if.Statement.{statement}
-use Rattle.timers.proofs.pulse_if.Tie as tie
+use Rattle.timeouts.proofs.pulse_if.Statement.{statement}
+use Rattle.timeouts.proofs.pulse_if.Tie as tie
 
 returns : tie.Need-returns
 returns c = rw (c .before .if1 .taken) (c .pulse .ensures)

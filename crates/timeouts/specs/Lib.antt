@@ -1,0 +1,2 @@
+-- Clocks, count pulses and timeouts of the four timers.
+pub mod Clocks

@@ -7,7 +7,9 @@ use Rattle.events.specs.declared.Event.{Event}
 use Rattle.record.specs.declared.Decoded.{Decoded}
 use Rattle.record.specs.declared.Decoded.the-variants.{Valid}
 use Rattle.record.specs.Records.{recordBytes}
-use Rattle.tape.specs.Tapes.{decoded, events·at, events}
+use Rattle.record.specs.Taken.{taken}
+use Rattle.record.proofs.Taken.{taken-is-meant}
+use Rattle.tape.specs.Tapes.{rawAt, decoded, events·at, events}
 
 module _ (tape : List ℕ) (i n : ℕ) (h : i < n) where
   -- the records from the i-th on are the i-th and those after it
@@ -23,3 +25,8 @@ module _ (tape : List ℕ) (i n : ℕ) (h : i < n) where
 pub events-none : (tape : List ℕ) (i : ℕ) → events tape i 0 ≡ []
 unfolding events
 events-none tape i = refl
+
+-- what is taken of a record that means an event is that event
+pub taken-valid : (tape : List ℕ) (at : ℕ) (e : Event) → decoded tape at ≡ Valid e → taken (rawAt tape at) ≡ e
+unfolding decoded
+taken-valid tape at e p = taken-is-meant (rawAt tape at) e p

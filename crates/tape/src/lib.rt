@@ -10,10 +10,9 @@ use record::Verdict;
 ghost use mathlib.Core.Path.{_≡_};
 ghost use Prim.Native.Nat.{_+_, _*_, _/_, _≤_, _<_};
 ghost use lib.ListN.{length};
-ghost use Rattle.events.specs.declared.Event.{Event as EventT};
-ghost use Rattle.record.specs.declared.Decoded.the-variants.{Valid};
 ghost use Rattle.record.specs.Records.{recordBytes};
 ghost use Rattle.record.specs.Verdicts.{verdictOf};
+ghost use Rattle.record.specs.Taken.{taken};
 ghost use Rattle.tape.specs.Tapes.{rawAt, decoded, recordAt};
 
 pub const TAPE_MOST: usize = 4096;
@@ -42,11 +41,11 @@ fn raw_at(tape: &[u8], at: usize) -> Raw
     }
 }
 
-// The event of that record, if the check lets it pass: then n is its lowest byte in all kinds but 5. Each
-// arm reads its own bytes and writes its event out, so that the compiler keeps it in registers (D87).
+// The event that is taken of that record: what it means, if the check lets it pass; n is then its lowest
+// byte in all kinds but 5. Each arm reads its own bytes and writes its event out, so that the compiler keeps it in registers (D87).
 pub fn event_at(tape: &[u8], at: usize) -> Event
     requires { ⌜ at + recordBytes ≤ length (now tape) ⌝ }
-    ensures { λ r. ⌜ ((e : EventT) → decoded (now (tape .entry)) at ≡ Valid e → r ≡ e) ⌝ }
+    ensures { λ r. ⌜ r ≡ taken (rawAt (now (tape .entry)) at) ⌝ }
 {
     let a = tape[at + 3];
     match tape[at + 2] {

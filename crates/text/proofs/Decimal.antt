@@ -9,7 +9,8 @@ use native.Mathlib.Omega.{arith}
 use borrow.Author.Tests.{ltb-true, ltb-false, lt-ltb, le-ltb}
 use lib.Dec.{ltb}
 use lib.ListN.{length, length-append}
-use Rattle.text.specs.Lines.{digit, decimalIn, decimal}
+use Rattle.text.specs.Lines.{decimalIn, decimal}
+use Rattle.words.specs.Words.{digit}
 
 either : (n : ℕ) → (n < 10) ⊎ (10 ≤ n)
 either n = go (ltb n 10) refl

@@ -4,7 +4,8 @@ use mathlib.Core.Bool.{true, false}
 use Prim.Native.Nat.{ℕ}
 use Rattle.events.specs.declared.Answer.the-variants.{Done, Data, Vector}
 use Rattle.timeouts.specs.declared.Timeouts.{Timeouts}
-use Rattle.text.specs.Lines.{bytes, decimalIn, decimal, hexByte, middleOf, countsOf, lineOf, refusedLine}
+use Rattle.text.specs.Lines.{decimalIn, decimal, countsOf, lineOf, refusedLine}
+use Rattle.words.specs.Words.{bytes, hexByte, middleOf}
 
 -- so many timeouts of timer C, none of the others
 onlyC : ℕ → Timeouts

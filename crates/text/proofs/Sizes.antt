@@ -7,7 +7,8 @@ use lib.ListN.{length, length-append}
 use Rattle.events.specs.declared.Answer.{Answer}
 use Rattle.events.specs.declared.Answer.the-variants.{Done, Data, Vector, PassedOn, Held}
 use Rattle.timeouts.specs.declared.Timeouts.{Timeouts}
-use Rattle.text.specs.Lines.{bytes, decimal, hexByte, spaced, ended, middleOf, countsOf, lineOf, refusedLine, lineMost}
+use Rattle.text.specs.Lines.{decimal, ended, countsOf, lineOf, refusedLine, lineMost}
+use Rattle.words.specs.Words.{bytes, hexByte, spaced, middleOf}
 use Rattle.text.specs.Private.{indexMost, middleBytes, countMost, countsMost}
 use Rattle.text.proofs.Decimal.{at-most}
 

@@ -7,89 +7,11 @@ ghost use mathlib.Core.Path.{_≡_};
 ghost use mathlib.Core.List.{[], _∷_, _++_};
 ghost use Prim.Native.Nat.{_+_, _≤_, _<_};
 ghost use lib.ListN.{length};
-ghost use Rattle.text.specs.Lines.{decimal, hexDigit, hexByte, classLetter, valueText, irqDigit, middleOf, countsOf, lineOf, refusedLine, written, writtenLength, Counts};
+ghost use Rattle.text.specs.Lines.{decimal, countsOf, lineOf, refusedLine, written, writtenLength, Counts};
 ghost use Rattle.text.specs.Private.{Puts, countsMost};
 
-// The bytes of class, value, IRQ and outputs, and of a buffer that holds every line.
-const MIDDLE_BYTES: usize = 12;
-
+// The bytes of a buffer that holds every line.
 pub const LINE_MOST: usize = 64;
-
-// The hex digit of a number below 16.
-fn hex_digit(d: u8) -> u8
-    requires { ⌜ d < 16 ⌝ }
-    ensures { λ r. ⌜ r ≡ hexDigit d ⌝ }
-{
-    if d < 10 {
-        return b'0' + d;
-    }
-    b'A' - 10 + d
-}
-
-fn class_letter(a: Answer) -> u8
-    ensures { λ r. ⌜ r ≡ classLetter a ⌝ }
-{
-    match a {
-        Answer::Done => b'D',
-        Answer::Data(_) => b'R',
-        Answer::Vector(_) => b'V',
-        Answer::PassedOn => b'P',
-        Answer::Held => b'H',
-    }
-}
-
-// The two hex digits of a byte.
-fn hex_byte(v: u8) -> [u8; 2]
-    ensures { λ r. ⌜ r ≡ hexByte v ⌝ }
-{
-    let high = hex_digit(v / 16);
-    let low = hex_digit(v % 16);
-    [high, low]
-}
-
-fn value_text(a: Answer) -> [u8; 2]
-    ensures { λ r. ⌜ r ≡ valueText a ⌝ }
-{
-    match a {
-        Answer::Done => [b'-', b'-'],
-        Answer::Data(v) => hex_byte(v),
-        Answer::Vector(v) => hex_byte(v),
-        Answer::PassedOn => [b'-', b'-'],
-        Answer::Held => [b'-', b'-'],
-    }
-}
-
-fn irq_digit(irq: bool) -> u8
-    ensures { λ r. ⌜ r ≡ irqDigit irq ⌝ }
-{
-    if irq {
-        return b'1';
-    }
-    b'0'
-}
-
-// Class, value, IRQ and outputs, with a space after each.
-fn middle(a: Answer, irq: bool, outputs: u8) -> [u8; MIDDLE_BYTES]
-    ensures { λ r. ⌜ r ≡ middleOf a irq outputs ⌝ }
-{
-    let class = class_letter(a);
-    let value = value_text(a);
-    let irq = irq_digit(irq);
-    [
-        class,
-        b' ',
-        value[0],
-        value[1],
-        b' ',
-        irq,
-        b' ',
-        b'0' + outputs % 2,
-        b'0' + outputs / 2 % 2,
-        b'0' + outputs / 4 % 2,
-        b'0' + outputs / 8 % 2,
-        b' ',
-    ]
-}
 
 // Puts text at index `at`, and returns the index after it.
 fn put(out: &mut [u8], at: usize, text: &[u8]) -> usize
@@ -148,7 +70,7 @@ pub fn line(out: &mut [u8], index: u16, a: Answer, irq: bool, outputs: u8, n: Ti
     if out.len() < LINE_MOST {
         return 0;
     }
-    let words = middle(a, irq, outputs);
+    let words = words::middle(a, irq, outputs);
     let to_words = put_number(out, 0, index as u32, b' ');
     let to_counts = put(out, to_words, &words);
     put_counts(out, to_counts, n)

@@ -6,7 +6,8 @@ use lib.ListN.{length}
 use Rattle.device.specs.declared.Device.{Device}
 use Rattle.record.specs.Records.{recordBytes}
 use Rattle.answer.specs.Answers.{answerBytes}
-use Rattle.text.specs.Lines.{bytes, decimalIn, decimal, refusedLine}
+use Rattle.text.specs.Lines.{decimalIn, decimal, refusedLine}
+use Rattle.words.specs.Words.{bytes}
 use Rattle.tape.specs.Tapes.{tapeMost, fitting, records, events}
 use Rattle.checks.specs.Checks.{firstBad}
 use Rattle.checks.specs.Checks.{tapeResult}

@@ -10,9 +10,10 @@ use Rattle.device.specs.declared.Device.{Device}
 use Rattle.events.specs.declared.Event.{Event}
 use Rattle.device.specs.declared.Stepped.{Stepped}
 use Rattle.step.specs.Events.{stepOf}
-use Rattle.record.specs.declared.Decoded.the-variants.{Valid}
 use Rattle.record.specs.Records.{recordBytes}
-use Rattle.tape.specs.Tapes.{decoded}
+use Rattle.record.specs.Taken.{taken}
+use Rattle.tape.specs.Tapes.{rawAt}
+use Rattle.tape.proofs.Tapes.{taken-valid}
 use Rattle.answer.specs.Answers.{answerBytes, answerOf}
 use Rattle.run.proofs.Going.{Going, going-begins, going-on, going-ends}
 use Rattle.checks.proofs.Walk.{check-fine}
@@ -31,11 +32,11 @@ module _ (d : Device) (tape ans₀ : List ℕ) (n : ℕ) (ans : List ℕ) (at : 
   fits r = let l = g .long in omega arith
 
   -- the step of the record's event, answered where it belongs
-  turned : (x : Event) → ((e : Event) → decoded tape (i * recordBytes) ≡ Valid e → x ≡ e) → i * answerBytes + answerBytes ≤ length ans → (s : Stepped) (out : List ℕ) → s ≡ stepOf at x
+  turned : (x : Event) → x ≡ taken (rawAt tape (i * recordBytes)) → i * answerBytes + answerBytes ≤ length ans → (s : Stepped) (out : List ℕ) → s ≡ stepOf at x
       → out ≡ take (i * answerBytes) ans ++ answerOf s ++ drop (i * answerBytes + answerBytes) ans → (next : Device) → next ≡ s .device → Going d tape ans₀ n out next (i + 1)
   turned x w r s out q f next same =
       let k = check-fine tape i n h (g .clear) in
-      rw (f, same, q ∙ ap (stepOf at) (w (k .event) (k .is))) (going-on d tape ans₀ n ans at i g h (k .event) (k .is) r)
+      rw (f, same, q ∙ ap (stepOf at) (w ∙ taken-valid tape (i * recordBytes) (k .event) (k .is))) (going-on d tape ans₀ n ans at i g h (k .event) (k .is) r)
 
 loop-holds : tie.Need-loop-holds Inv-loop μ-loop
 loop-holds c = going-begins (c .before .before .args .d) (c .before .before .args .tape .now) (c .before .before .args .answers .now) (c .before .before .args .n) (c .before .before .pre .1 .1)

@@ -1,4 +1,4 @@
--- `tape::event_at` meets its contract: what is taken of a record let pass, kind by kind, is what it means. Assumes nothing.
+-- `tape::event_at` meets its contract: what is taken of a record, kind by kind. Assumes nothing.
 use Prim.Native.Nat.{ℕ, _+_, zero-le}
 use mathlib.Core.List.{List}
 use mathlib.Core.Path.{_≡_, refl, sym, ap, _∙_}
@@ -21,13 +21,10 @@ module _ (tape : List ℕ) (at : ℕ) where
   abbrev byKind : ℕ → Event
   byKind k = getD (takenAs (rawAt tape at)) k (Raise (channel (byte tape (at + 3))))
 
-  -- the event of a record of kind k, if the check lets it pass
-  meant-as : (x : Event) → x ≡ byKind (byte tape (at + 2)) → (e : Event) → decoded tape at ≡ Valid e → x ≡ e
-  unfolding decoded taken
-  meant-as x q e p = q ∙ taken-is-meant (rawAt tape at) e p
-
-  of-kind : (k : ℕ) → byte tape (at + 2) ≡ k → (x : Event) → x ≡ byKind k → (e : Event) → decoded tape at ≡ Valid e → x ≡ e
-  of-kind k is x q = meant-as x (q ∙ ap byKind (sym is))
+  -- the event that is taken of a record of kind k
+  of-kind : (k : ℕ) → byte tape (at + 2) ≡ k → (x : Event) → x ≡ byKind k → x ≡ taken (rawAt tape at)
+  unfolding taken
+  of-kind k is x q = q ∙ ap byKind (sym is)
 
 returns : tie.Need-returns
 returns c = let a = c .before .before .before .before .args in of-kind (a .tape .now) (a .at) 0 (c .match .keys1) _ refl
@@ -51,10 +48,11 @@ returns-7 : tie.Need-returns-7
 returns-7 c = let a = c .before .before .before .before .args in of-kind (a .tape .now) (a .at) 6 (c .match .keys7) _ refl
 
 returns-8 : tie.Need-returns-8
+unfolding taken
 returns-8 c =
     let a = c .before .before .before .before .args in
     let r = c .match .rest in
-    meant-as (a .tape .now) (a .at) _ (sym (List·getD-eq-default (takenAs (rawAt (a .tape .now) (a .at))) (Raise (channel (byte (a .tape .now) (a .at + 3)))) (past (past (past (past (past (past (past zero-le (r .0 .0 .0 .0 .0 .0 .1)) (r .0 .0 .0 .0 .0 .1)) (r .0 .0 .0 .0 .1)) (r .0 .0 .0 .1)) (r .0 .0 .1)) (r .0 .1)) (r .1))))
+    sym (List·getD-eq-default (takenAs (rawAt (a .tape .now) (a .at))) (Raise (channel (byte (a .tape .now) (a .at + 3)))) (past (past (past (past (past (past (past zero-le (r .0 .0 .0 .0 .0 .0 .1)) (r .0 .0 .0 .0 .0 .1)) (r .0 .0 .0 .0 .1)) (r .0 .0 .0 .1)) (r .0 .0 .1)) (r .0 .1)) (r .1)))
 
 pub event-at-spec : {M : Type 1} → statement M
 event-at-spec =

@@ -7,6 +7,7 @@ use Rattle.tape.specs.Tapes.{fitting, decoded, foundIn, recordAt}
 use Rattle.tape.specs.declared.Found.the-variants.{Means}
 use Rattle.record.proofs.Verdicts.{sound, wrong}
 use borrow.Author.Tests.{eq-eqb, ne-eqb, le-leb, lt-leb}
+use Rattle.tape.proofs.Tapes.{taken-valid}
 use Rattle.tape.proofs.record_at.Statement.{statement}
 use Rattle.tape.proofs.record_at.Tie as tie
 
@@ -30,7 +31,7 @@ returns-5 : tie.Need-returns-5
 unfolding recordAt fitting
 returns-5 c =
     let s = sound _ (sym (c .before .before .before .verdict-at .ensures) ∙ c .before .enum-told .given .1) in
-    rw (eq-eqb _ _ (c .before .before .before .before .before .before .if1 .left), le-leb _ _ (c .before .before .before .before .before .if2 .left), lt-leb _ _ (c .before .before .before .before .if3 .left)) (ap Means (c .event-at .ensures (s .event) (s .is)) ∙ sym (ap foundIn (s .is)))
+    rw (eq-eqb _ _ (c .before .before .before .before .before .before .if1 .left), le-leb _ _ (c .before .before .before .before .before .if2 .left), lt-leb _ _ (c .before .before .before .before .if3 .left)) (ap Means (c .event-at .ensures ∙ taken-valid _ _ (s .event) (s .is)) ∙ sym (ap foundIn (s .is)))
 
 pub record-at-spec : {M : Type 1} → statement M
 record-at-spec =

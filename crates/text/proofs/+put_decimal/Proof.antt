@@ -4,7 +4,8 @@ use mathlib.Core.List.{[], _∷_}
 use Prim.Native.Nat.{ℕ, _<_}
 use native.Mathlib.Omega.{arith}
 use lib.ListN.{length, length-set}
-use Rattle.text.specs.Lines.{digit, decimal}
+use Rattle.text.specs.Lines.{decimal}
+use Rattle.words.specs.Words.{digit}
 use Rattle.text.proofs.Decimal.{below-ten, from-ten, one-more}
 use Rattle.text.proofs.Stores.{sets-append}
 use borrow.Fn.Kinds.{In}

@@ -1,9 +1,9 @@
--- `text::value_text` meets its contract, case by case. Assumes nothing.
+-- `words::value_text` meets its contract, case by case. Assumes nothing.
 use mathlib.Core.Path.{sym, ap, _∙_}
 use borrow.Author.Needs.{needs}
-use Rattle.text.specs.Lines.{valueText}
-use Rattle.text.proofs.value_text.Statement.{statement}
-use Rattle.text.proofs.value_text.Tie as tie
+use Rattle.words.specs.Words.{valueText}
+use Rattle.words.proofs.value_text.Statement.{statement}
+use Rattle.words.proofs.value_text.Tie as tie
 
 enum-told : tie.Need-enum-told
 enum-told c = search needs

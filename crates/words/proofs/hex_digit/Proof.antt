@@ -1,9 +1,9 @@
--- `text::hex_digit` meets its contract. Assumes nothing.
+-- `words::hex_digit` meets its contract. Assumes nothing.
 use native.Mathlib.Omega.{arith}
 use borrow.Author.Needs.{needs}
 use borrow.Author.Tests.{lt-ltb, le-ltb}
-use Rattle.text.proofs.hex_digit.Statement.{statement}
-use Rattle.text.proofs.hex_digit.Tie as tie
+use Rattle.words.proofs.hex_digit.Statement.{statement}
+use Rattle.words.proofs.hex_digit.Tie as tie
 
 add-result : tie.Need-add-result
 add-result c = search needs

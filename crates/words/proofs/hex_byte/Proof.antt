@@ -1,8 +1,8 @@
--- `text::hex_byte` meets its contract. Assumes nothing.
+-- `words::hex_byte` meets its contract. Assumes nothing.
 use borrow.Author.Needs.{needs}
-use Rattle.text.specs.Lines.{hexByte}
-use Rattle.text.proofs.hex_byte.Statement.{statement}
-use Rattle.text.proofs.hex_byte.Tie as tie
+use Rattle.words.specs.Words.{hexByte}
+use Rattle.words.proofs.hex_byte.Statement.{statement}
+use Rattle.words.proofs.hex_byte.Tie as tie
 
 hex-digit-requires : tie.Need-hex-digit-requires
 hex-digit-requires c κs = search needs

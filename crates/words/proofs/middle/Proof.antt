@@ -1,4 +1,4 @@
--- `text::middle` meets its contract: a value has two bytes. Assumes nothing.
+-- `words::middle` meets its contract: a value has two bytes. Assumes nothing.
 use mathlib.Core.Path.{_≡_, refl}
 use mathlib.Core.List.{List, [], _∷_, _++_}
 use Prim.Native.Nat.{ℕ}
@@ -6,9 +6,9 @@ use borrow.Author.Needs.{needs}
 use lib.ListN.{getD}
 use Rattle.events.specs.declared.Answer.{Answer}
 use Rattle.events.specs.declared.Answer.the-variants.{Done, Data, Vector, PassedOn, Held}
-use Rattle.text.specs.Lines.{hexByte, valueText, irqDigit, outputsText, spaced, middleOf}
-use Rattle.text.proofs.middle.Statement.{statement}
-use Rattle.text.proofs.middle.Tie as tie
+use Rattle.words.specs.Words.{hexByte, valueText, irqDigit, outputsText, spaced, middleOf}
+use Rattle.words.proofs.middle.Statement.{statement}
+use Rattle.words.proofs.middle.Tie as tie
 
 class-letter-requires : tie.Need-class-letter-requires
 class-letter-requires c κs = search needs

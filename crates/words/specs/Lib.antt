@@ -1,0 +1,2 @@
+-- Class, value, IRQ and outputs as text.
+pub mod Words

@@ -209,8 +209,8 @@ fn rows_are_true() {
     assert!(seen > 30, "{seen}");
 }
 
-/// Of each result and each buffer lent to be written. The contracts of clients are demands, no plain promise
-/// can be read off that of `lent::event`, and `tape::event_at` promises its result of some records only.
+/// Of each result and each buffer lent to be written. The contracts of clients are demands, and no plain promise
+/// can be read off that of `lent::event`.
 #[test]
 fn public_functions_promise_one_outcome() {
     let laws = read("crates/clients/proofs/Unique.antt");
@@ -231,10 +231,7 @@ fn public_functions_promise_one_outcome() {
             let result = laws
                 .matches(&format!(": FixesResult {name}.Learnt\n"))
                 .count();
-            let results = match (library.as_str(), path.as_str()) {
-                ("tape", "event_at") => 0,
-                _ => line.matches(" -> ").count(),
-            };
+            let results = line.matches(" -> ").count();
             assert_eq!(result, results, "{library}: {path}");
             let buffers = laws
                 .matches(&format!(": FixesBuffer {name}.Learnt "))

@@ -1,5 +1,4 @@
 -- `clients::run_answers_or_refuses` meets its contract. Assumes nothing.
-use mathlib.Core.Path.{_≡_, refl, sym, ap, ap₂, _∙_}
 use borrow.Author.Needs.{needs}
 use Rattle.clients.proofs.Relied.{answers-or-refuses}
 use Rattle.clients.proofs.run_answers_or_refuses.Statement.{statement}

@@ -1,8 +1,6 @@
 -- `clients::run_cut_and_joined` meets its contract. Assumes nothing.
-use mathlib.Core.Path.{_≡_, refl, sym, ap, ap₂, _∙_}
 use borrow.Author.Needs.{needs}
 use Rattle.clients.proofs.Relied.{joined-or-cut}
-use mathlib.Core.List.{List}
 use Rattle.clients.proofs.run_cut_and_joined.Statement.{statement}
 use Rattle.clients.proofs.run_cut_and_joined.Tie as tie
 

@@ -1,5 +1,4 @@
 -- `clients::run_has_its_row` meets its contract. Assumes nothing.
-use mathlib.Core.Path.{_≡_, refl, sym, ap, ap₂, _∙_}
 use borrow.Author.Needs.{needs}
 use Rattle.clients.proofs.Relied.{has-its-row}
 use Rattle.clients.proofs.run_has_its_row.Statement.{statement}

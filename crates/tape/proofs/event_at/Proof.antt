@@ -9,11 +9,9 @@ use Rattle.bits.specs.Bytes.{byte}
 use Rattle.channels.specs.Channels.{channel}
 use Rattle.events.specs.declared.Event.{Event}
 use Rattle.events.specs.declared.Event.the-variants.{Read, Write, Input, Clocks, Raise}
-use Rattle.record.specs.declared.Decoded.the-variants.{Valid}
 use Rattle.record.specs.Taken.{knownOf, takenAs, taken}
-use Rattle.record.proofs.Taken.{taken-is-meant}
 use Rattle.record.proofs.Verdicts.{past}
-use Rattle.tape.specs.Tapes.{rawAt, decoded}
+use Rattle.tape.specs.Tapes.{rawAt}
 use Rattle.tape.proofs.event_at.Statement.{statement}
 use Rattle.tape.proofs.event_at.Tie as tie
 

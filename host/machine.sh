@@ -32,6 +32,7 @@ need_cross() {
     if [ -n "$emulator" ]; then
         need "$emulator" qemu-user
         need x86_64-linux-gnu-gcc gcc-x86-64-linux-gnu
+        need /usr/x86_64-linux-gnu/include/stdio.h libc6-dev-amd64-cross
     fi
 }
 

@@ -44,7 +44,7 @@ use Rattle.step.specs.Events.{writeStep}
 use Rattle.device.specs.Whole.{resetDevice}
 use Rattle.step.specs.Events.{stepOf}
 use Rattle.step.proofs.Clocks.{spanTimers, clocks-each}
-use Rattle.demands.specs.Rule.{Bytes}
+use Rattle.demands.specs.Rule.{WritesByte}
 use Rattle.demands.specs.Parts.{Name, A, B, C, D, Part, gpdr, aer, ddr, levels, tai, tbi, vector, enabled, pending, service, mask, mode, reload, counter, position, output, timerNamed, partOf, byWrite, touched, among, AnEventChangesOnlyItsRow, PartsAreAll}
 
 -- ---- a device that has the named parts of one device and all others of another
@@ -299,7 +299,7 @@ unfolding given
 served (By c) i = same-is (given c i)
 served Nobody i = same-is i
 
-by-event : (e : Event) → Bytes e → (x : Device) → Only e x
+by-event : (e : Event) → WritesByte e → (x : Device) → Only e x
 unfolding Only stepOf resetDevice withLevel withInput signalled signalTimers raised acknowledged inputActive
 by-event Reset b x = λ k. record { lines = resetLines (x .lines); interrupts = same-is clearInterrupts k; timers = resetTimers (x .timers) }
 by-event (Read r) b x = λ k. record { lines = x .lines; interrupts = same-is (x .interrupts) k; timers = x .timers }

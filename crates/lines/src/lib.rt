@@ -172,11 +172,11 @@ impl Lines {
     pub fn with_level(self, i: Line, high: bool) -> Lines
         ensures { λ r. ⌜ r ≡ withLevel i high self ⌝ }
     {
-        let at = i.0;
-        if 7 < at {
+        let number = i.0;
+        if 7 < number {
             return self;
         }
-        let mask = 1u8 << at;
+        let mask = 1u8 << number;
         let mut l = self;
         if high {
             l.levels = self.levels | mask;

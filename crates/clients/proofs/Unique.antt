@@ -38,11 +38,8 @@ use Rattle.lines.proofs.Lines.written_out.Reads as lines-Lines-written-out
 use Rattle.lines.proofs.Lines.reset.Reads as lines-Lines-reset
 use Rattle.lines.proofs.Lines.read.Reads as lines-Lines-read
 use Rattle.lines.proofs.Lines.write.Reads as lines-Lines-write
-use Rattle.lines.proofs.Lines.input_is_active.Reads as lines-Lines-input-is-active
-use Rattle.lines.proofs.Lines.input_becomes.Reads as lines-Lines-input-becomes
 use Rattle.lines.proofs.Lines.with_level.Reads as lines-Lines-with-level
 use Rattle.lines.proofs.Lines.with_input.Reads as lines-Lines-with-input
-use Rattle.lines.proofs.Lines.raises.Reads as lines-Lines-raises
 use Rattle.timers.proofs.Timers.fresh.Reads as timers-Timers-fresh
 use Rattle.timers.proofs.Timers.reset.Reads as timers-Timers-reset
 use Rattle.timers.proofs.Timers.tcdcr.Reads as timers-Timers-tcdcr
@@ -50,6 +47,9 @@ use Rattle.timers.proofs.Timers.read.Reads as timers-Timers-read
 use Rattle.timers.proofs.Timers.write.Reads as timers-Timers-write
 use Rattle.timers.proofs.Timers.outputs.Reads as timers-Timers-outputs
 use Rattle.timers.proofs.Timers.keeps_rule.Reads as timers-Timers-keeps-rule
+use Rattle.signals.proofs.input_is_active.Reads as signals-input-is-active
+use Rattle.signals.proofs.input_becomes.Reads as signals-input-becomes
+use Rattle.signals.proofs.raises.Reads as signals-raises
 use Rattle.timeouts.proofs.Timeouts.zero.Reads as timeouts-Timeouts-zero
 use Rattle.timeouts.proofs.Timeouts.channels.Reads as timeouts-Timeouts-channels
 use Rattle.timeouts.proofs.clocks.Reads as timeouts-clocks
@@ -213,20 +213,11 @@ lines-Lines-read-fixed κs a x y s t p q = one p q
 lines-Lines-write-fixed : FixesResult lines-Lines-write.Learnt
 lines-Lines-write-fixed κs a x y s t p q = one p q
 
-lines-Lines-input-is-active-fixed : FixesResult lines-Lines-input-is-active.Learnt
-lines-Lines-input-is-active-fixed κs a x y s t p q = one p q
-
-lines-Lines-input-becomes-fixed : FixesResult lines-Lines-input-becomes.Learnt
-lines-Lines-input-becomes-fixed κs a x y s t p q = one p q
-
 lines-Lines-with-level-fixed : FixesResult lines-Lines-with-level.Learnt
 lines-Lines-with-level-fixed κs a x y s t p q = one p q
 
 lines-Lines-with-input-fixed : FixesResult lines-Lines-with-input.Learnt
 lines-Lines-with-input-fixed κs a x y s t p q = one p q
-
-lines-Lines-raises-fixed : FixesResult lines-Lines-raises.Learnt
-lines-Lines-raises-fixed κs a x y s t p q = one p q
 
 -- ---- timers
 timers-Timers-fresh-fixed : FixesResult timers-Timers-fresh.Learnt
@@ -249,6 +240,16 @@ timers-Timers-outputs-fixed κs a x y s t p q = one p q
 
 timers-Timers-keeps-rule-fixed : FixesResult timers-Timers-keeps-rule.Learnt
 timers-Timers-keeps-rule-fixed κs a x y s t p q = one p q
+
+-- ---- signals
+signals-input-is-active-fixed : FixesResult signals-input-is-active.Learnt
+signals-input-is-active-fixed κs a x y s t p q = one p q
+
+signals-input-becomes-fixed : FixesResult signals-input-becomes.Learnt
+signals-input-becomes-fixed κs a x y s t p q = one p q
+
+signals-raises-fixed : FixesResult signals-raises.Learnt
+signals-raises-fixed κs a x y s t p q = one p q
 
 -- ---- timeouts
 timeouts-Timeouts-zero-fixed : FixesResult timeouts-Timeouts-zero.Learnt

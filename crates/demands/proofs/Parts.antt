@@ -32,7 +32,7 @@ use Rattle.lines.specs.declared.LineRegister.the-variants.{Gpdr, Aer, Ddr}
 use Rattle.lines.specs.declared.TimerInput.{TimerInput}
 use Rattle.lines.specs.declared.TimerInput.the-variants.{Tai, Tbi}
 use Rattle.lines.specs.Registers.{lineWritten, withLevel, withInput, resetLines}
-use Rattle.lines.specs.Signals.{inputActive, inputBecomes}
+use Rattle.signals.specs.Signals.{inputActive, inputBecomes}
 use Rattle.events.specs.declared.Register.{Register}
 use Rattle.events.specs.declared.Register.the-variants.{OfLines, OfInterrupts, OfTimers}
 use Rattle.events.specs.declared.Event.{Event}

@@ -1,10 +1,10 @@
--- `Lines::input_ceases` meets its contract. Assumes nothing.
+-- `signals::input_ceases` meets its contract. Assumes nothing.
 use mathlib.Core.Path.{_∙_}
 use borrow.Author.Needs.{needs}
-use Rattle.lines.specs.Signals.{inputCeases}
+use Rattle.signals.specs.Signals.{inputCeases}
 use mathlib.Core.Bool.{not, _&&_}
-use Rattle.lines.proofs.Lines.input_ceases.Statement.{statement}
-use Rattle.lines.proofs.Lines.input_ceases.Tie as tie
+use Rattle.signals.proofs.input_ceases.Statement.{statement}
+use Rattle.signals.proofs.input_ceases.Tie as tie
 
 returns : tie.Need-returns
 unfolding inputCeases

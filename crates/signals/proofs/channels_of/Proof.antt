@@ -1,9 +1,9 @@
--- `lines::channels_of` meets its contract: one test at every byte. Assumes nothing.
+-- `signals::channels_of` meets its contract: one test at every byte. Assumes nothing.
 use borrow.Author.Needs.{needs}
-use Rattle.lines.proofs.Raising.{spread-is}
+use Rattle.signals.proofs.Changes.{spread-is}
 use native.Mathlib.Omega.{arith}
-use Rattle.lines.proofs.channels_of.Statement.{statement}
-use Rattle.lines.proofs.channels_of.Tie as tie
+use Rattle.signals.proofs.channels_of.Statement.{statement}
+use Rattle.signals.proofs.channels_of.Tie as tie
 
 returns : tie.Need-returns
 returns c = spread-is (c .args .w) (omega arith)

@@ -1,20 +1,18 @@
 -- The lines that raise their channels, as one set of eight bits. Assumes nothing.
-use Prim.Native.Nat.{ℕ, zero, suc, _+_, _*_, _/_, _%_, _^_, _<_}
+use Prim.Native.Nat.{ℕ, zero, suc, _+_, _*_, _/_, _%_, _<_}
 use mathlib.Core.Path.{_≡_, refl, ap₂}
 use mathlib.Core.Bool.{Bool, true, false, cond, not, _&&_, _||_, Bool·beq}
 use mathlib.Core.List.{List, _∷_}
-use native.Mathlib.Nat.{one-mul, mod-eq-of-lt}
 use native.Mathlib.Omega.{arith}
 use lib.Bits.{bitAnd, bitXor}
 use lib.Dec.{eqb, ltb, eqb→eq}
-use lib.Pow.{pow-lt}
 use Rattle.channels.specs.Channels.{has, setOf, channelOf, line}
 use Rattle.channels.specs.Raises.{Raises, raisesIf, raisedBy}
 use Rattle.channels.proofs.Tables.{everywhere, same}
 use Rattle.channels.proofs.Sets.{has-and, has-xor}
 use Rattle.lines.specs.declared.Lines.{Lines}
-use Rattle.lines.specs.Signals.{active, lineActive, muted, lineRaises, linesBelow, ofInputs}
-use Rattle.lines.specs.Private.{heard}
+use Rattle.signals.specs.Signals.{lineActive, muted, lineRaises, linesBelow, ofInputs}
+use Rattle.signals.specs.Private.{heard}
 
 -- ---- the channels of a set of lines
 -- the code's sum, at every byte, by one test
@@ -73,7 +71,3 @@ raising a b before after o e i h =
 pub once-raised : (b : Bool) → ltb 0 (cond b 1 0) ≡ b
 once-raised true = refl
 once-raised false = refl
-
--- ---- the mask of one line
-pub shifted : (i : ℕ) → i < 8 → 1 * 2 ^ i % 256 ≡ 2 ^ i
-shifted i h = rw (one-mul (2 ^ i)) (mod-eq-of-lt (pow-lt h))

@@ -1,9 +1,9 @@
--- `lines::is_active` meets its contract. Assumes nothing.
+-- `signals::is_active` meets its contract. Assumes nothing.
 use borrow.Author.Needs.{needs}
 use mathlib.Core.Path.{_≡_, refl, sym, ap, _∙_}
 use mathlib.Core.Bool.{Bool, true, false, Bool·beq}
-use Rattle.lines.proofs.is_active.Statement.{statement}
-use Rattle.lines.proofs.is_active.Tie as tie
+use Rattle.signals.proofs.is_active.Statement.{statement}
+use Rattle.signals.proofs.is_active.Tie as tie
 
 beq-true : (b : Bool) → Bool·beq true b ≡ b
 beq-true true = refl

@@ -1,10 +1,10 @@
--- `Lines::input_becomes` meets its contract. Assumes nothing.
+-- `signals::input_becomes` meets its contract. Assumes nothing.
 use mathlib.Core.Path.{_∙_}
 use borrow.Author.Needs.{needs}
-use Rattle.lines.specs.Signals.{inputBecomes}
+use Rattle.signals.specs.Signals.{inputBecomes}
 use mathlib.Core.Bool.{not, _&&_}
-use Rattle.lines.proofs.Lines.input_becomes.Statement.{statement}
-use Rattle.lines.proofs.Lines.input_becomes.Tie as tie
+use Rattle.signals.proofs.input_becomes.Statement.{statement}
+use Rattle.signals.proofs.input_becomes.Tie as tie
 
 returns : tie.Need-returns
 unfolding inputBecomes

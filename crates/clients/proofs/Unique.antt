@@ -63,9 +63,9 @@ use Rattle.events.proofs.is_in_range.Reads as events-is-in-range
 use Rattle.events.proofs.class_of.Reads as events-class-of
 use Rattle.events.proofs.value_of.Reads as events-value-of
 use Rattle.events.proofs.number_of.Reads as events-number-of
-use Rattle.record.proofs.read_select.Reads as record-read-select
-use Rattle.record.proofs.write_select.Reads as record-write-select
-use Rattle.record.proofs.known.Reads as record-known
+use Rattle.selects.proofs.read_select.Reads as selects-read-select
+use Rattle.selects.proofs.write_select.Reads as selects-write-select
+use Rattle.selects.proofs.known.Reads as selects-known
 use Rattle.record.proofs.input_of.Reads as record-input-of
 use Rattle.record.proofs.Raw.verdict.Reads as record-Raw-verdict
 use Rattle.words.proofs.middle.Reads as words-middle
@@ -294,14 +294,14 @@ events-number-of-fixed : FixesResult events-number-of.Learnt
 events-number-of-fixed κs a x y s t p q = one p q
 
 -- ---- record
-record-read-select-fixed : FixesResult record-read-select.Learnt
-record-read-select-fixed κs a x y s t p q = one p q
+selects-read-select-fixed : FixesResult selects-read-select.Learnt
+selects-read-select-fixed κs a x y s t p q = one p q
 
-record-write-select-fixed : FixesResult record-write-select.Learnt
-record-write-select-fixed κs a x y s t p q = one p q
+selects-write-select-fixed : FixesResult selects-write-select.Learnt
+selects-write-select-fixed κs a x y s t p q = one p q
 
-record-known-fixed : FixesResult record-known.Learnt
-record-known-fixed κs a x y s t p q = one p q
+selects-known-fixed : FixesResult selects-known.Learnt
+selects-known-fixed κs a x y s t p q = one p q
 
 record-input-of-fixed : FixesResult record-input-of.Learnt
 record-input-of-fixed κs a x y s t p q = one p q

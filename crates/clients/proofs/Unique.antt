@@ -81,6 +81,9 @@ use Rattle.device.proofs.Device.keeps_rule.Reads as device-Device-keeps-rule
 use Rattle.step.proofs.step.Reads as step-step
 use Rattle.step.proofs.write.Reads as step-write
 use Rattle.step.proofs.acknowledge.Reads as step-acknowledge
+use Rattle.layout.proofs.lines_from.Reads as layout-lines-from
+use Rattle.layout.proofs.interrupts_from.Reads as layout-interrupts-from
+use Rattle.layout.proofs.timers_from.Reads as layout-timers-from
 use Rattle.image.proofs.load.Reads as image-load
 use Rattle.image.proofs.store.Reads as image-store
 use Rattle.image.proofs.save.Reads as image-save
@@ -293,7 +296,7 @@ events-value-of-fixed κs a x y s t p q = one p q
 events-number-of-fixed : FixesResult events-number-of.Learnt
 events-number-of-fixed κs a x y s t p q = one p q
 
--- ---- record
+-- ---- selects
 selects-read-select-fixed : FixesResult selects-read-select.Learnt
 selects-read-select-fixed κs a x y s t p q = one p q
 
@@ -303,6 +306,7 @@ selects-write-select-fixed κs a x y s t p q = one p q
 selects-known-fixed : FixesResult selects-known.Learnt
 selects-known-fixed κs a x y s t p q = one p q
 
+-- ---- record
 record-input-of-fixed : FixesResult record-input-of.Learnt
 record-input-of-fixed κs a x y s t p q = one p q
 
@@ -357,6 +361,16 @@ step-write-fixed κs a x y s t p q = one p q
 
 step-acknowledge-fixed : FixesResult step-acknowledge.Learnt
 step-acknowledge-fixed κs a x y s t p q = one p q
+
+-- ---- layout
+layout-lines-from-fixed : FixesResult layout-lines-from.Learnt
+layout-lines-from-fixed κs a x y s t p q = one p q
+
+layout-interrupts-from-fixed : FixesResult layout-interrupts-from.Learnt
+layout-interrupts-from-fixed κs a x y s t p q = one p q
+
+layout-timers-from-fixed : FixesResult layout-timers-from.Learnt
+layout-timers-from-fixed κs a x y s t p q = one p q
 
 -- ---- image
 image-load-fixed : FixesResult image-load.Learnt

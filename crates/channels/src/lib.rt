@@ -23,11 +23,11 @@ const CHANNELS: [u8; 8] = [0, 1, 2, 3, 6, 7, 14, 15];
 pub fn channel_of(line: Line) -> Channel
     ensures { λ r. ⌜ r ≡ channelOf line ⌝ }
 {
-    let at = line.0 as usize;
-    if 8 <= at {
+    let number = line.0 as usize;
+    if 8 <= number {
         return Channel(16);
     }
-    Channel(CHANNELS[at])
+    Channel(CHANNELS[number])
 }
 
 // The set of one channel.

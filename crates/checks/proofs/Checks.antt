@@ -17,20 +17,20 @@ use Rattle.record.specs.Records.{recordBytes}
 use Rattle.tape.specs.Tapes.{records, decoded}
 use Rattle.checks.specs.Checks.{firstBad·at, firstBad}
 use Rattle.tape.specs.Tapes.{tapeMost, fitting}
-use Rattle.checks.specs.Checks.{code, afterRecords, tapeResult}
+use Rattle.checks.specs.Checks.{returned, afterRecords, tapeResult}
 use Rattle.answer.specs.Answers.{answerBytes}
 
 -- a refusal's number is not 0
-pub code-above : (r : Refusal) (i : ℕ) → code r i ≡ 0 → ⊥
-code-above ImageLength i e = omega arith
-code-above ImageMark i e = omega arith
-code-above ImageRule i e = omega arith
-code-above TapeLength i e = omega arith
-code-above RecordMark i e = omega arith
-code-above Kind i e = omega arith
-code-above Operand i e = omega arith
-code-above Serial i e = omega arith
-code-above AnswerLength i e = omega arith
+pub returned-above : (r : Refusal) (i : ℕ) → returned r i ≡ 0 → ⊥
+returned-above ImageLength i e = omega arith
+returned-above ImageMark i e = omega arith
+returned-above ImageRule i e = omega arith
+returned-above TapeLength i e = omega arith
+returned-above RecordMark i e = omega arith
+returned-above Kind i e = omega arith
+returned-above Operand i e = omega arith
+returned-above Serial i e = omega arith
+returned-above AnswerLength i e = omega arith
 
 -- the record refused is one of those checked
 bad-below : (tape : List ℕ) (i k : ℕ) (r : Refusal) (j : ℕ) → firstBad tape i k ≡ Bad r j → j < i + k
@@ -47,13 +47,13 @@ index-below tape n r j e = omega (arith, bad-below tape 0 n r j e)
 
 module _ (tape : List ℕ) (room : ℕ) where
   -- ---- refusal 4
-  pub uneven : (length tape % recordBytes ≡ 0 → ⊥) → tapeResult tape room ≡ code TapeLength 0
+  pub uneven : (length tape % recordBytes ≡ 0 → ⊥) → tapeResult tape room ≡ returned TapeLength 0
   unfolding tapeResult fitting
   uneven h = rw (ne-eqb _ _ h) refl
 
-  pub too-long : tapeMost < length tape → tapeResult tape room ≡ code TapeLength 0
+  pub too-long : tapeMost < length tape → tapeResult tape room ≡ returned TapeLength 0
   unfolding tapeResult fitting
-  too-long h = rw (lt-leb _ _ h) (ap (λ (b : Bool). cond b (afterRecords (firstBad tape 0 (records tape)) (records tape) room) (code TapeLength 0)) (never (eqb (length tape % recordBytes) 0)))
+  too-long h = rw (lt-leb _ _ h) (ap (λ (b : Bool). cond b (afterRecords (firstBad tape 0 (records tape)) (records tape) room) (returned TapeLength 0)) (never (eqb (length tape % recordBytes) 0)))
     where
       never : (b : Bool) → (b && false) ≡ false
       never true = refl
@@ -65,16 +65,16 @@ module _ (tape : List ℕ) (room : ℕ) where
     unfolding tapeResult fitting
     by-records = rw (eq-eqb _ _ even, le-leb _ _ short) refl
 
-    pub bad : (r : Refusal) (i : ℕ) → firstBad tape 0 (records tape) ≡ Bad r i → tapeResult tape room ≡ code r i
+    pub bad : (r : Refusal) (i : ℕ) → firstBad tape 0 (records tape) ≡ Bad r i → tapeResult tape room ≡ returned r i
     bad r i e = by-records ∙ ap (λ (c : Checked). afterRecords c (records tape) room) e
 
-    by-room : firstBad tape 0 (records tape) ≡ Fine → tapeResult tape room ≡ cond (leb (answerBytes * records tape) room) 0 (code AnswerLength 0)
+    by-room : firstBad tape 0 (records tape) ≡ Fine → tapeResult tape room ≡ cond (leb (answerBytes * records tape) room) 0 (returned AnswerLength 0)
     by-room e = by-records ∙ ap (λ (c : Checked). afterRecords c (records tape) room) e
 
     pub roomy : firstBad tape 0 (records tape) ≡ Fine → answerBytes * records tape ≤ room → tapeResult tape room ≡ 0
     roomy e h = by-room e ∙ rw (le-leb _ _ h) refl
 
-    pub cramped : firstBad tape 0 (records tape) ≡ Fine → room < answerBytes * records tape → tapeResult tape room ≡ code AnswerLength 0
+    pub cramped : firstBad tape 0 (records tape) ≡ Fine → room < answerBytes * records tape → tapeResult tape room ≡ returned AnswerLength 0
     cramped e h = by-room e ∙ rw (lt-leb _ _ h) refl
 
   -- ---- what an accepted tape has shown
@@ -85,12 +85,12 @@ module _ (tape : List ℕ) (room : ℕ) where
     pub roomy : answerBytes * records tape ≤ room
 
   by-tests : (a b : Bool) (c : Checked) (f : Bool) → eqb (length tape % recordBytes) 0 ≡ a → leb (length tape) tapeMost ≡ b → firstBad tape 0 (records tape) ≡ c → leb (answerBytes * records tape) room ≡ f
-      → cond (a && b) (afterRecords c (records tape) room) (code TapeLength 0) ≡ 0 → Passed
+      → cond (a && b) (afterRecords c (records tape) room) (returned TapeLength 0) ≡ 0 → Passed
   by-tests true true Fine true p q r s t = record { even = eqb-true _ _ p; short = leb-true _ _ q; fine = r; roomy = leb-true _ _ s }
-  by-tests true true Fine false p q r s t = let z : code AnswerLength 0 ≡ 0 = sym (rw s refl) ∙ t in absurd (code-above AnswerLength 0 z)
-  by-tests true true (Bad x i) f p q r s t = absurd (code-above x i t)
-  by-tests true false c f p q r s t = absurd (code-above TapeLength 0 t)
-  by-tests false b c f p q r s t = absurd (code-above TapeLength 0 t)
+  by-tests true true Fine false p q r s t = let z : returned AnswerLength 0 ≡ 0 = sym (rw s refl) ∙ t in absurd (returned-above AnswerLength 0 z)
+  by-tests true true (Bad x i) f p q r s t = absurd (returned-above x i t)
+  by-tests true false c f p q r s t = absurd (returned-above TapeLength 0 t)
+  by-tests false b c f p q r s t = absurd (returned-above TapeLength 0 t)
 
   pub passed : tapeResult tape room ≡ 0 → Passed
   unfolding tapeResult fitting

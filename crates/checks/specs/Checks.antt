@@ -24,14 +24,14 @@ firstBad tape i zero = Fine
 firstBad tape i (suc k) = firstBad·at (decoded tape (i * recordBytes)) i (firstBad tape (i + 1) k)
 
 -- "The C call returns 0, or 256 × index of the bad record (0 for 1 to 4 and 9) + number."
-abbrev pub code : Refusal → ℕ → ℕ
-code r i = 256 * i + numberOf r
+abbrev pub returned : Refusal → ℕ → ℕ
+returned r i = 256 * i + numberOf r
 
 -- 9: "answer buffer shorter than 22 × records", after all records
 abbrev pub afterRecords : Checked → ℕ → ℕ → ℕ
-afterRecords (Bad r i) n room = code r i
-afterRecords Fine n room = cond (leb (answerBytes * n) room) 0 (code AnswerLength 0)
+afterRecords (Bad r i) n room = returned r i
+afterRecords Fine n room = cond (leb (answerBytes * n) room) 0 (returned AnswerLength 0)
 
 -- of a tape alone: 4, then 5 to 8, then 9
 unfoldable pub tapeResult : List ℕ → ℕ → ℕ
-tapeResult tape room = cond (fitting tape) (afterRecords (firstBad tape 0 (records tape)) (records tape) room) (code TapeLength 0)
+tapeResult tape room = cond (fitting tape) (afterRecords (firstBad tape 0 (records tape)) (records tape) room) (returned TapeLength 0)

@@ -10,7 +10,7 @@ ghost use Prim.Native.Nat.{_+_, _*_, _/_, _≤_, _<_};
 ghost use lib.ListN.{length};
 ghost use Rattle.record.specs.Records.{recordBytes};
 ghost use Rattle.tape.specs.Tapes.{tapeMost};
-ghost use Rattle.checks.specs.Checks.{firstBad, code, tapeResult};
+ghost use Rattle.checks.specs.Checks.{firstBad, returned, tapeResult};
 
 // What the check of a tape's records finds: nothing, or the first refusal and its record's index.
 pub enum Checked {
@@ -40,7 +40,7 @@ fn check_records(tape: &[u8], n: usize) -> Checked
 // The number of a refusal of record i.
 fn coded(r: Refusal, i: usize) -> u32
     requires { ⌜ i < tapeMost / recordBytes ⌝ }
-    ensures { λ c. ⌜ c ≡ code r i ⌝ }
+    ensures { λ c. ⌜ c ≡ returned r i ⌝ }
 {
     256 * (i as u32) + events::number_of(r) as u32
 }

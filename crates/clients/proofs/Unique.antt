@@ -38,11 +38,8 @@ use Rattle.lines.proofs.Lines.written_out.Reads as lines-Lines-written-out
 use Rattle.lines.proofs.Lines.reset.Reads as lines-Lines-reset
 use Rattle.lines.proofs.Lines.read.Reads as lines-Lines-read
 use Rattle.lines.proofs.Lines.write.Reads as lines-Lines-write
-use Rattle.lines.proofs.Lines.input_is_active.Reads as lines-Lines-input-is-active
-use Rattle.lines.proofs.Lines.input_becomes.Reads as lines-Lines-input-becomes
 use Rattle.lines.proofs.Lines.with_level.Reads as lines-Lines-with-level
 use Rattle.lines.proofs.Lines.with_input.Reads as lines-Lines-with-input
-use Rattle.lines.proofs.Lines.raises.Reads as lines-Lines-raises
 use Rattle.timers.proofs.Timers.fresh.Reads as timers-Timers-fresh
 use Rattle.timers.proofs.Timers.reset.Reads as timers-Timers-reset
 use Rattle.timers.proofs.Timers.tcdcr.Reads as timers-Timers-tcdcr
@@ -50,6 +47,9 @@ use Rattle.timers.proofs.Timers.read.Reads as timers-Timers-read
 use Rattle.timers.proofs.Timers.write.Reads as timers-Timers-write
 use Rattle.timers.proofs.Timers.outputs.Reads as timers-Timers-outputs
 use Rattle.timers.proofs.Timers.keeps_rule.Reads as timers-Timers-keeps-rule
+use Rattle.signals.proofs.input_is_active.Reads as signals-input-is-active
+use Rattle.signals.proofs.input_becomes.Reads as signals-input-becomes
+use Rattle.signals.proofs.raises.Reads as signals-raises
 use Rattle.timeouts.proofs.Timeouts.zero.Reads as timeouts-Timeouts-zero
 use Rattle.timeouts.proofs.Timeouts.channels.Reads as timeouts-Timeouts-channels
 use Rattle.timeouts.proofs.clocks.Reads as timeouts-clocks
@@ -63,9 +63,9 @@ use Rattle.events.proofs.is_in_range.Reads as events-is-in-range
 use Rattle.events.proofs.class_of.Reads as events-class-of
 use Rattle.events.proofs.value_of.Reads as events-value-of
 use Rattle.events.proofs.number_of.Reads as events-number-of
-use Rattle.record.proofs.read_select.Reads as record-read-select
-use Rattle.record.proofs.write_select.Reads as record-write-select
-use Rattle.record.proofs.known.Reads as record-known
+use Rattle.selects.proofs.read_select.Reads as selects-read-select
+use Rattle.selects.proofs.write_select.Reads as selects-write-select
+use Rattle.selects.proofs.known.Reads as selects-known
 use Rattle.record.proofs.input_of.Reads as record-input-of
 use Rattle.record.proofs.Raw.verdict.Reads as record-Raw-verdict
 use Rattle.words.proofs.middle.Reads as words-middle
@@ -81,6 +81,9 @@ use Rattle.device.proofs.Device.keeps_rule.Reads as device-Device-keeps-rule
 use Rattle.step.proofs.step.Reads as step-step
 use Rattle.step.proofs.write.Reads as step-write
 use Rattle.step.proofs.acknowledge.Reads as step-acknowledge
+use Rattle.layout.proofs.lines_from.Reads as layout-lines-from
+use Rattle.layout.proofs.interrupts_from.Reads as layout-interrupts-from
+use Rattle.layout.proofs.timers_from.Reads as layout-timers-from
 use Rattle.image.proofs.load.Reads as image-load
 use Rattle.image.proofs.store.Reads as image-store
 use Rattle.image.proofs.save.Reads as image-save
@@ -213,20 +216,11 @@ lines-Lines-read-fixed κs a x y s t p q = one p q
 lines-Lines-write-fixed : FixesResult lines-Lines-write.Learnt
 lines-Lines-write-fixed κs a x y s t p q = one p q
 
-lines-Lines-input-is-active-fixed : FixesResult lines-Lines-input-is-active.Learnt
-lines-Lines-input-is-active-fixed κs a x y s t p q = one p q
-
-lines-Lines-input-becomes-fixed : FixesResult lines-Lines-input-becomes.Learnt
-lines-Lines-input-becomes-fixed κs a x y s t p q = one p q
-
 lines-Lines-with-level-fixed : FixesResult lines-Lines-with-level.Learnt
 lines-Lines-with-level-fixed κs a x y s t p q = one p q
 
 lines-Lines-with-input-fixed : FixesResult lines-Lines-with-input.Learnt
 lines-Lines-with-input-fixed κs a x y s t p q = one p q
-
-lines-Lines-raises-fixed : FixesResult lines-Lines-raises.Learnt
-lines-Lines-raises-fixed κs a x y s t p q = one p q
 
 -- ---- timers
 timers-Timers-fresh-fixed : FixesResult timers-Timers-fresh.Learnt
@@ -249,6 +243,16 @@ timers-Timers-outputs-fixed κs a x y s t p q = one p q
 
 timers-Timers-keeps-rule-fixed : FixesResult timers-Timers-keeps-rule.Learnt
 timers-Timers-keeps-rule-fixed κs a x y s t p q = one p q
+
+-- ---- signals
+signals-input-is-active-fixed : FixesResult signals-input-is-active.Learnt
+signals-input-is-active-fixed κs a x y s t p q = one p q
+
+signals-input-becomes-fixed : FixesResult signals-input-becomes.Learnt
+signals-input-becomes-fixed κs a x y s t p q = one p q
+
+signals-raises-fixed : FixesResult signals-raises.Learnt
+signals-raises-fixed κs a x y s t p q = one p q
 
 -- ---- timeouts
 timeouts-Timeouts-zero-fixed : FixesResult timeouts-Timeouts-zero.Learnt
@@ -292,16 +296,17 @@ events-value-of-fixed κs a x y s t p q = one p q
 events-number-of-fixed : FixesResult events-number-of.Learnt
 events-number-of-fixed κs a x y s t p q = one p q
 
+-- ---- selects
+selects-read-select-fixed : FixesResult selects-read-select.Learnt
+selects-read-select-fixed κs a x y s t p q = one p q
+
+selects-write-select-fixed : FixesResult selects-write-select.Learnt
+selects-write-select-fixed κs a x y s t p q = one p q
+
+selects-known-fixed : FixesResult selects-known.Learnt
+selects-known-fixed κs a x y s t p q = one p q
+
 -- ---- record
-record-read-select-fixed : FixesResult record-read-select.Learnt
-record-read-select-fixed κs a x y s t p q = one p q
-
-record-write-select-fixed : FixesResult record-write-select.Learnt
-record-write-select-fixed κs a x y s t p q = one p q
-
-record-known-fixed : FixesResult record-known.Learnt
-record-known-fixed κs a x y s t p q = one p q
-
 record-input-of-fixed : FixesResult record-input-of.Learnt
 record-input-of-fixed κs a x y s t p q = one p q
 
@@ -356,6 +361,16 @@ step-write-fixed κs a x y s t p q = one p q
 
 step-acknowledge-fixed : FixesResult step-acknowledge.Learnt
 step-acknowledge-fixed κs a x y s t p q = one p q
+
+-- ---- layout
+layout-lines-from-fixed : FixesResult layout-lines-from.Learnt
+layout-lines-from-fixed κs a x y s t p q = one p q
+
+layout-interrupts-from-fixed : FixesResult layout-interrupts-from.Learnt
+layout-interrupts-from-fixed κs a x y s t p q = one p q
+
+layout-timers-from-fixed : FixesResult layout-timers-from.Learnt
+layout-timers-from-fixed κs a x y s t p q = one p q
 
 -- ---- image
 image-load-fixed : FixesResult image-load.Learnt

@@ -90,9 +90,9 @@ fn span_of(v: u8) -> u32
 fn to_go(d: u32, p: u8) -> u32
     ensures { λ r. ⌜ r ≡ toGo d p ⌝ }
 {
-    let at = p as u32;
-    if at < d {
-        return d - at;
+    let position = p as u32;
+    if position < d {
+        return d - position;
     }
     1
 }

@@ -24,7 +24,7 @@ use Rattle.channels.proofs.Tables.{everywhere, same}
 use Rattle.timers.specs.Registers.{timerRead, timerWritten}
 use Rattle.device.specs.declared.Device.{Device}
 use Rattle.events.specs.declared.Answer.the-variants.{Data}
-use Rattle.lines.specs.Signals.{lineActive, inputActive, inputBecomes, inputCeases, muted, lineRaises, linesBelow, pulseEnds, signalRaises}
+use Rattle.signals.specs.Signals.{lineActive, inputActive, inputBecomes, inputCeases, muted, lineRaises, linesBelow, pulseEnds, signalRaises}
 use Rattle.device.specs.Signals.{counts, signalTimeouts, signalTimers, changeRaises, signalled}
 use Rattle.lines.specs.Registers.{lineWritten, withInput}
 use Rattle.step.specs.Clocks.{clocksDevice, timeoutsDevice}

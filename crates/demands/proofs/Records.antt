@@ -16,14 +16,15 @@ use Rattle.events.specs.declared.Refusal.the-variants.{RecordMark, Kind, Operan
 use Rattle.events.specs.Ranges.{inRange}
 use Rattle.bits.specs.Bytes.{byte}
 use Rattle.bits.proofs.Bits.{joined}
-use Rattle.record.specs.declared.Selected.{Selected}
-use Rattle.record.specs.declared.Selected.the-variants.{Known, SerialPort}
+use Rattle.selects.specs.declared.Selected.{Selected}
+use Rattle.selects.specs.declared.Selected.the-variants.{Known, SerialPort}
 use Rattle.record.specs.declared.Decoded.{Decoded}
 use Rattle.record.specs.declared.Decoded.the-variants.{Valid, Invalid}
-use Rattle.record.specs.Records.{recordBytes, registers, registerOf, reading, writing, inputOf, ifInRange, eventOf, readSelect, writeSelect, meant}
+use Rattle.selects.specs.Selects.{registers, registerOf, readSelect, writeSelect}
+use Rattle.record.specs.Records.{recordBytes, reading, writing, inputOf, ifInRange, eventOf, meant}
 use Rattle.tape.specs.Tapes.{decoded}
 use Rattle.record.proofs.Verdicts.{Holds}
-use Rattle.demands.specs.Rule.{Bytes}
+use Rattle.demands.specs.Rule.{WritesByte}
 use Rattle.demands.specs.Refusals.{RecordMarked, kindOf, operandA, operandN, OperandsInRange, of-reset, of-read, of-write, of-level, of-input, of-clocks, of-acknowledge, of-raise, SerialSelect, serial-read, serial-write, RecordInRange, RecordSerial, GoodRecord, RecordMeans, GoodRecordHasEvent}
 use Rattle.demands.proofs.Decides.{Decides, equal-decided, most-decided, both-decided, not-held}
 
@@ -53,7 +54,7 @@ pub data Row (kind a n : ℕ) : Decoded → Type 0 where
   refuses-kind : 7 < kind → Row kind a n (Invalid Kind)
   refuses-operand : kind ≤ 7 → (OperandsInRange kind a n → ⊥) → Row kind a n (Invalid Operand)
   refuses-serial : OperandsInRange kind a n → SerialSelect kind a → Row kind a n (Invalid Serial)
-  gives-event : OperandsInRange kind a n → (SerialSelect kind a → ⊥) → (e : Event) → Bytes e → inRange e ≡ true → Row kind a n (Valid e)
+  gives-event : OperandsInRange kind a n → (SerialSelect kind a → ⊥) → (e : Event) → WritesByte e → inRange e ≡ true → Row kind a n (Valid e)
 
 from-19 : {kind a : ℕ} → SerialSelect kind a → 19 ≤ a
 from-19 (serial-read h l) = h
@@ -140,7 +141,7 @@ module _ {tape : List ℕ} {i : ℕ} where
   good-of : {e : Event} → RecordRow tape i (Valid e) → GoodRecord tape i
   good-of (past-mark m (gives-event r n e b w)) = record { marked = m; operands = r; no-serial = n }
 
-  pub bytes-of : {e : Event} → RecordRow tape i (Valid e) → Bytes e
+  pub bytes-of : {e : Event} → RecordRow tape i (Valid e) → WritesByte e
   bytes-of (past-mark m (gives-event r n e b w)) = b
 
   pub range-of : {e : Event} → RecordRow tape i (Valid e) → inRange e ≡ true

@@ -13,7 +13,8 @@ use Rattle.events.specs.declared.Refusal.{Refusal}
 use Rattle.events.specs.declared.Refusal.the-variants.{ImageLength, ImageMark, ImageRule, TapeLength, RecordMark, Kind, Operand, Serial, AnswerLength}
 use Rattle.device.specs.Whole.{imageRule}
 use Rattle.image.specs.declared.Loaded.the-variants.{Accepted, Refused}
-use Rattle.image.specs.Image.{imageBytes, deviceOf, unusedZero, loadOf}
+use Rattle.layout.specs.Layout.{imageBytes, deviceOf}
+use Rattle.image.specs.Image.{unusedZero, loadOf}
 use Rattle.bits.specs.Bytes.{byte}
 use Rattle.bits.proofs.Bits.{halves, joined}
 use Rattle.image.proofs.Loads.{read}
@@ -25,10 +26,10 @@ use Rattle.tape.specs.Tapes.{records, decoded}
 use Rattle.checks.specs.Checks.{firstBad·at, firstBad}
 use Rattle.answer.specs.Answers.{answerBytes}
 use Rattle.tape.specs.Tapes.{tapeMost}
-use Rattle.checks.specs.Checks.{code}
+use Rattle.checks.specs.Checks.{returned}
 use Rattle.run.specs.Runs.{resultOf, imageAfter, answersAfter}
-use Rattle.checks.proofs.Checks.{code-above, uneven, too-long, bad, roomy, cramped}
-use Rattle.run.proofs.Results.{by-image, by-tape, refused}
+use Rattle.checks.proofs.Checks.{returned-above, uneven, too-long, bad, roomy, cramped}
+use Rattle.run.proofs.Results.{by-image, by-tape}
 use Rattle.demands.specs.Refusals.{ImageMarked, ImageRuled, GoodImage, GoodRecord, GoodBefore, ChecksReach, Given, image-length-wrong, image-mark-wrong, image-rule-broken, tape-length-wrong, record-mark-wrong, kind-above-7, operand-out-of-range, serial-register, answers-too-short, not-refused, EachCallHasItsRow, NoOtherRow, Ends, with-answers, with-refusal, AnsweredOrRefused, GoodImageLoads}
 use Rattle.demands.proofs.Decides.{Decides, equal-decided, both-decided, not-passed, not-held}
 use Rattle.demands.proofs.ByteRule.{byte-rule-is-record-rule}
@@ -86,7 +87,7 @@ module _ (tape : List ℕ) where
 
 -- ---- no other row
 module _ (image tape answers : List ℕ) where
-  record-refused : (r : Refusal) (i : ℕ) → i < records tape → ChecksReach image tape i → decoded tape (i * recordBytes) ≡ Invalid r → code r i ≡ resultOf image tape answers
+  record-refused : (r : Refusal) (i : ℕ) → i < records tape → ChecksReach image tape i → decoded tape (i * recordBytes) ≡ Invalid r → returned r i ≡ resultOf image tape answers
   record-refused r i h c p =
       sym (by-tape image tape answers (deviceOf image) (loads image (c .good-image))
       ∙ bad tape (length answers) (c .whole-records) (c .not-above) r i (finds tape (records tape) 0 i r (omega arith) (omega arith) (c .good-before) p))
@@ -177,7 +178,7 @@ module _ (image tape : List ℕ) (room : ℕ) where
   -- what a row says of its number
   data RowNumber : ℕ → Type 0 where
     no-refusal : PassedAll → RowNumber 0
-    refusal-number : (r : Refusal) (i : ℕ) → RowNumber (code r i)
+    refusal-number : (r : Refusal) (i : ℕ) → RowNumber (returned r i)
 
   row-number : {n : ℕ} → Given image tape room n → RowNumber n
   row-number (image-length-wrong h) = refusal-number ImageLength 0
@@ -196,11 +197,11 @@ module _ (image tape answers : List ℕ) where
   unfolding imageAfter answersAfter
   ends (no-refusal p) g e = rw (eq-eqb _ _ (sym e)) (with-answers g)
   ends (refusal-number r i) g e =
-      rw (ne-eqb (resultOf image tape answers) 0 (λ z. code-above r i (e ∙ z))) (with-refusal (code-above r i) g)
+      rw (ne-eqb (resultOf image tape answers) 0 (λ z. returned-above r i (e ∙ z))) (with-refusal (returned-above r i) g)
 
   passed-all : {n : ℕ} → RowNumber image tape (length answers) n → n ≡ 0 → PassedAll image tape (length answers)
   passed-all (no-refusal p) e = p
-  passed-all (refusal-number r i) e = absurd (code-above r i e)
+  passed-all (refusal-number r i) e = absurd (returned-above r i e)
 
   pub an-answered-call-passed-all : resultOf image tape answers ≡ 0 → PassedAll image tape (length answers)
   an-answered-call-passed-all e = passed-all (row-number image tape (length answers) (each-call-has-its-row image tape answers)) e

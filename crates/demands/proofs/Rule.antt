@@ -3,10 +3,8 @@ use Prim.Native.Nat.{ℕ, _<_}
 use mathlib.Core.Path.{_≡_}
 use mathlib.Core.Bool.{true}
 use Rattle.bits.proofs.Bits.{halves, joined}
-use Rattle.interrupts.specs.declared.Interrupts.{Interrupts}
 use Rattle.interrupts.proofs.Rule.{Ruled, ruled, rule-kept, raise-ruled, written-ruled, clear-ruled}
 use Rattle.requests.proofs.Rule.{acknowledged-ruled}
-use Rattle.timers.specs.declared.Timers.{Timers}
 use Rattle.timers.proofs.Rule.{AllSettled, all-settled, timers-ruled, reset-settles, written-settles}
 use Rattle.timeouts.proofs.Rule.{pulses-settle, clocks-settle}
 use Rattle.lines.specs.declared.Lines.{Lines}
@@ -23,7 +21,7 @@ use Rattle.step.specs.Events.{writeStep}
 use Rattle.device.specs.Whole.{resetDevice, imageRule}
 use Rattle.step.specs.Events.{stepOf}
 use Rattle.step.proofs.Clocks.{clocks-each}
-use Rattle.demands.specs.Rule.{Bytes, EveryEventKeepsTheRule}
+use Rattle.demands.specs.Rule.{WritesByte, EveryEventKeepsTheRule}
 
 -- the rule's parts; the lines have none
 pub record RuleParts (x : Device) : Type 0 where
@@ -55,7 +53,7 @@ module _ (d : Device) (k : RuleParts d) where
   written-keeps (OfInterrupts r) v h = record { interrupts = written-ruled (d .interrupts) (k .interrupts) r v h; timers = k .timers }
   written-keeps (OfTimers r) v h = record { interrupts = k .interrupts; timers = written-settles (d .timers) (k .timers) r v }
 
-step-keeps : (d : Device) → RuleParts d → (e : Event) → Bytes e → RuleParts (stepOf d e .device)
+step-keeps : (d : Device) → RuleParts d → (e : Event) → WritesByte e → RuleParts (stepOf d e .device)
 unfolding stepOf resetDevice
 step-keeps d k Reset h = record { interrupts = clear-ruled; timers = reset-settles (d .timers) (k .timers) }
 step-keeps d k (Read r) h = k

@@ -7,10 +7,11 @@ use Rattle.device.specs.declared.Device.{Device}
 use Rattle.events.specs.declared.Event.{Event}
 use Rattle.device.specs.Whole.{freshDevice, imageRule}
 use Rattle.image.specs.declared.Loaded.the-variants.{Accepted}
-use Rattle.image.specs.Image.{imageOf, deviceOf, loadOf}
+use Rattle.layout.specs.Layout.{imageOf, deviceOf}
+use Rattle.image.specs.Image.{loadOf}
 use Rattle.tape.specs.Tapes.{eventsOf}
 use Rattle.run.specs.Runs.{runOf, resultOf, imageAfter, answersAfter}
-use Rattle.demands.specs.Rule.{Bytes}
+use Rattle.demands.specs.Rule.{WritesByte}
 use Rattle.demands.specs.Images.{OfBytes}
 use Rattle.demands.specs.Refusals.{GoodImage}
 
@@ -18,7 +19,7 @@ use Rattle.demands.specs.Refusals.{GoodImage}
 -- each of the events writes a byte at most
 abbrev pub AllBytes : List Event → Type 0
 AllBytes [] = Unit {0}
-AllBytes (e ∷ es) = Bytes e × AllBytes es
+AllBytes (e ∷ es) = WritesByte e × AllBytes es
 
 -- as the events of any tape do
 abbrev pub ATapeWritesBytes : Type 0

@@ -20,7 +20,7 @@ use Rattle.events.specs.declared.Event.{Event}
 use Rattle.events.specs.declared.Event.the-variants.{Reset, Read, Write, Level, Input, Clocks, Acknowledge, Raise}
 use Rattle.device.specs.declared.Device.{Device}
 use Rattle.step.specs.Events.{stepOf}
-use Rattle.demands.specs.Rule.{Bytes}
+use Rattle.demands.specs.Rule.{WritesByte}
 
 -- ---- the parts of a device: each register by itself, A's and B's apart, and each timer's fields
 pub data Name : Type 0 where
@@ -152,7 +152,7 @@ among p (q ∷ qs) = (eqb (rowOf p) (rowOf q) && eqb (placeOf p) (placeOf q)) ||
 -- ---- the statements
 -- an event leaves every part that its row does not name
 abbrev pub AnEventChangesOnlyItsRow : Type 0
-AnEventChangesOnlyItsRow = (x : Device) (e : Event) → Bytes e → (p : Part) → among p (touched e) ≡ false → partOf p (stepOf x e .device) ≡ partOf p x
+AnEventChangesOnlyItsRow = (x : Device) (e : Event) → WritesByte e → (p : Part) → among p (touched e) ≡ false → partOf p (stepOf x e .device) ≡ partOf p x
 
 -- and the parts are the whole device
 abbrev pub PartsAreAll : Type 0

@@ -9,15 +9,15 @@ use Rattle.device.specs.Whole.{imageRule}
 use Rattle.step.specs.Events.{stepOf}
 
 -- what an event writes is a byte, as its type says
-abbrev pub Bytes : Event → Type 0
-Bytes Reset = Unit {0}
-Bytes (Read r) = Unit {0}
-Bytes (Write r v) = v < 256
-Bytes (Level i high) = Unit {0}
-Bytes (Input i high) = Unit {0}
-Bytes (Clocks n) = Unit {0}
-Bytes (Acknowledge iei) = Unit {0}
-Bytes (Raise c) = Unit {0}
+abbrev pub WritesByte : Event → Type 0
+WritesByte Reset = Unit {0}
+WritesByte (Read r) = Unit {0}
+WritesByte (Write r v) = v < 256
+WritesByte (Level i high) = Unit {0}
+WritesByte (Input i high) = Unit {0}
+WritesByte (Clocks n) = Unit {0}
+WritesByte (Acknowledge iei) = Unit {0}
+WritesByte (Raise c) = Unit {0}
 
 abbrev pub EveryEventKeepsTheRule : Type 0
-EveryEventKeepsTheRule = (d : Device) (e : Event) → Bytes e → imageRule d ≡ true → imageRule (stepOf d e .device) ≡ true
+EveryEventKeepsTheRule = (d : Device) (e : Event) → WritesByte e → imageRule d ≡ true → imageRule (stepOf d e .device) ≡ true

@@ -11,7 +11,7 @@ use Rattle.timeouts.specs.Clocks.{timeoutRaises, pulseTimers, pulseTimeouts, no
 use Rattle.lines.specs.declared.Lines.{Lines}
 use Rattle.lines.specs.declared.TimerInput.{TimerInput}
 use Rattle.lines.specs.declared.TimerInput.the-variants.{Tai, Tbi}
-use Rattle.lines.specs.Signals.{inputBecomes, signalRaises, ofInputs}
+use Rattle.signals.specs.Signals.{inputBecomes, signalRaises, ofInputs}
 use Rattle.device.specs.declared.Device.{Device}
 use Rattle.events.specs.declared.Answer.the-variants.{Done}
 use Rattle.device.specs.declared.Stepped.{Stepped}

@@ -72,7 +72,10 @@ impl Device {
         let l = self.lines;
         let t = self.timers;
         let a = t.a;
-        bits::both(a.counts_events(), l.input_becomes(after, TimerInput::Tai))
+        bits::both(
+            a.counts_events(),
+            signals::input_becomes(l, after, TimerInput::Tai),
+        )
     }
 
     fn counts_b(self, after: Lines) -> bool
@@ -81,7 +84,10 @@ impl Device {
         let l = self.lines;
         let t = self.timers;
         let b = t.b;
-        bits::both(b.counts_events(), l.input_becomes(after, TimerInput::Tbi))
+        bits::both(
+            b.counts_events(),
+            signals::input_becomes(l, after, TimerInput::Tbi),
+        )
     }
 
     // The signals become those of `after`, by a level event or an AER write.
@@ -95,7 +101,7 @@ impl Device {
         let t = self.timers;
         let a = t.a;
         let b = t.b;
-        let raised = l.raises(after, a.measures_pulses(), b.measures_pulses());
+        let raised = signals::raises(l, after, a.measures_pulses(), b.measures_pulses());
         let u = timeouts::count(t, counts_a, counts_b);
         let next = u.timers;
         let n = u.timeouts;

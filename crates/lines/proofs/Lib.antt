@@ -1,2 +1,2 @@
--- The laws of the lines that its functions use.
-pub mod Raising
+-- What the functions of the lines share.
+mod Levels

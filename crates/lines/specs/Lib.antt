@@ -1,4 +1,2 @@
--- The rules of the lines and timer inputs, their registers and signals.
+-- The registers and levels of the lines and timer inputs.
 pub mod Registers
-pub mod Signals
-pub mod Private

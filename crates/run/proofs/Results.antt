@@ -11,15 +11,16 @@ use Rattle.device.specs.declared.Device.{Device}
 use Rattle.events.specs.declared.Refusal.{Refusal}
 use Rattle.image.specs.declared.Loaded.{Loaded}
 use Rattle.image.specs.declared.Loaded.the-variants.{Accepted, Refused}
-use Rattle.image.specs.Image.{imageOf, loadOf, storedOver}
+use Rattle.layout.specs.Layout.{imageOf}
+use Rattle.image.specs.Image.{loadOf, storedOver}
 use Rattle.image.proofs.Loads.{Read, read}
 use Rattle.tape.specs.Tapes.{records, eventsOf}
-use Rattle.checks.specs.Checks.{code, tapeResult}
+use Rattle.checks.specs.Checks.{returned, tapeResult}
 use Rattle.answer.specs.Answers.{answerBytes}
 use Rattle.run.specs.Runs.{runOf, answersOf, afterImage, resultOf, imageAfter, answersAfter}
 
 module _ (image tape answers : List ℕ) where
-  pub by-image : (r : Refusal) → loadOf image ≡ Refused r → resultOf image tape answers ≡ code r 0
+  pub by-image : (r : Refusal) → loadOf image ≡ Refused r → resultOf image tape answers ≡ returned r 0
   unfolding resultOf
   by-image r e = ap (λ (l : Loaded). afterImage l tape (length answers)) e
 

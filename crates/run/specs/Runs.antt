@@ -7,12 +7,13 @@ use lib.ListN.{length, drop}
 use Rattle.device.specs.declared.Device.{Device}
 use Rattle.events.specs.declared.Event.{Event}
 use Rattle.step.specs.Events.{stepOf}
-use Rattle.image.specs.Image.{imageOf, deviceOf, loadOf}
+use Rattle.layout.specs.Layout.{imageOf, deviceOf}
+use Rattle.image.specs.Image.{loadOf}
 use Rattle.image.specs.declared.Loaded.{Loaded}
 use Rattle.image.specs.declared.Loaded.the-variants.{Accepted, Refused}
 use Rattle.answer.specs.Answers.{answerBytes, answerOf}
 use Rattle.tape.specs.Tapes.{records, eventsOf}
-use Rattle.checks.specs.Checks.{code, tapeResult}
+use Rattle.checks.specs.Checks.{returned, tapeResult}
 
 -- ---- events one after the other
 unfoldable pub runOf : Device → List Event → Device
@@ -27,7 +28,7 @@ answersOf d (e ∷ es) = answerOf (stepOf d e) ++ answersOf (stepOf d e .device)
 -- ---- the refusals
 -- "Checks run 1 to 4, then 5 to 8 for each record in tape order, then 9."
 abbrev pub afterImage : Loaded → List ℕ → ℕ → ℕ
-afterImage (Refused r) tape room = code r 0
+afterImage (Refused r) tape room = returned r 0
 afterImage (Accepted d) tape room = tapeResult tape room
 
 -- what the C call returns for an image, a tape and an answer buffer

@@ -11,7 +11,7 @@ use Rattle.timeouts.specs.declared.Timeouts.{Timeouts}
 use Rattle.timeouts.specs.Clocks.{addTimeouts, timeoutRaises, timersAfter, timeoutsAfter}
 use Rattle.timeouts.proofs.Raises.{timeouts-add-raises, none-raises}
 use Rattle.lines.specs.declared.TimerInput.the-variants.{Tai, Tbi}
-use Rattle.lines.specs.Signals.{inputActive}
+use Rattle.signals.specs.Signals.{inputActive}
 use Rattle.device.specs.declared.Device.{Device}
 use Rattle.step.specs.Clocks.{clockTimeouts, clockTimers, clockDevice, clocksDevice, timeoutsDevice}
 

@@ -6,7 +6,7 @@ use Rattle.timers.specs.declared.Timers.{Timers}
 use Rattle.timeouts.specs.declared.Timeouts.{Timeouts}
 use Rattle.timeouts.specs.Clocks.{none, addTimeouts, timeoutRaises, eachClocked, eachReloads}
 use Rattle.lines.specs.declared.TimerInput.the-variants.{Tai, Tbi}
-use Rattle.lines.specs.Signals.{inputActive}
+use Rattle.signals.specs.Signals.{inputActive}
 use Rattle.device.specs.declared.Device.{Device}
 
 -- the reloads of one clock

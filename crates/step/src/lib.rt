@@ -69,8 +69,8 @@ fn begin_clocks(d: Device, n: u32) -> Begun
     let t = d.timers;
     let u = timeouts::clocks(
         t,
-        l.input_is_active(TimerInput::Tai),
-        l.input_is_active(TimerInput::Tbi),
+        signals::input_is_active(l, TimerInput::Tai),
+        signals::input_is_active(l, TimerInput::Tbi),
         n,
     );
     let next = u.timers;

@@ -17,7 +17,7 @@ use Rattle.checks.specs.declared.Checked.{Checked}
 use Rattle.checks.specs.declared.Checked.the-variants.{Fine, Bad}
 use Rattle.tape.specs.Tapes.{tapeMost, fitting, records}
 use Rattle.checks.specs.Checks.{firstBad}
-use Rattle.checks.specs.Checks.{code, afterRecords, tapeResult}
+use Rattle.checks.specs.Checks.{returned, afterRecords, tapeResult}
 use Rattle.checks.proofs.Checks.{index-below}
 use Rattle.transcript.specs.Transcript.{recordsMost, answersMost, codeOf}
 
@@ -45,7 +45,7 @@ module _ (tape : List ℕ) where
   unfolding tapeResult codeOf
   room-enough = go (fitting tape) (firstBad tape 0 n) refl
     where
-      go : (b : Bool) (c : Checked) → fitting tape ≡ b → cond b (afterRecords c n answersMost) (code TapeLength 0) ≡ cond b (afterRecords c n (answerBytes * n)) (code TapeLength 0)
+      go : (b : Bool) (c : Checked) → fitting tape ≡ b → cond b (afterRecords c n answersMost) (returned TapeLength 0) ≡ cond b (afterRecords c n (answerBytes * n)) (returned TapeLength 0)
       go true Fine e = let h : n ≤ recordsMost = few e in rw (le-leb (answerBytes * n) answersMost (omega arith), le-leb (answerBytes * n) (answerBytes * n) (omega arith))
       go true (Bad r i) e = refl
       go false c e = refl
@@ -54,7 +54,7 @@ module _ (tape : List ℕ) where
   unfolding tapeResult codeOf
   code-low = go (fitting tape) (firstBad tape 0 n) refl refl
     where
-      go : (b : Bool) (c : Checked) → fitting tape ≡ b → firstBad tape 0 n ≡ c → cond b (afterRecords c n (answerBytes * n)) (code TapeLength 0) < 256 * recordsMost
+      go : (b : Bool) (c : Checked) → fitting tape ≡ b → firstBad tape 0 n ≡ c → cond b (afterRecords c n (answerBytes * n)) (returned TapeLength 0) < 256 * recordsMost
       go true Fine e f = rw (le-leb (answerBytes * n) (answerBytes * n) (omega arith)) (lit< tt)
       go true (Bad r i) e f = let h : n ≤ recordsMost = few e in let j : i < n = index-below tape n r i f in omega (arith, number-low r)
       go false c e f = lit< tt

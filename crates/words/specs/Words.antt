@@ -1,7 +1,7 @@
 -- Document 01, "The replay program": the words of a line that take a fixed room, as bytes.
 use Prim.Native.Nat.{ℕ, _+_, _-_, _/_, _%_}
 use Prim.Native.Char.{code}
-use Prim.Native.String.{String, [] as none, _∷_ as _then_}
+use Prim.Native.String.{String, [] as empty, _∷_ as _then_}
 use mathlib.Core.Bool.{Bool, cond}
 use mathlib.Core.List.{List, [], _∷_, _++_}
 use lib.Dec.{ltb}
@@ -10,7 +10,7 @@ use Rattle.events.specs.declared.Answer.the-variants.{Done, Data, Vector, Passe
 
 -- the bytes of a text
 abbrev pub bytes : String → List ℕ
-bytes none = []
+bytes empty = []
 bytes (c then s) = code c ∷ bytes s
 
 -- a decimal digit

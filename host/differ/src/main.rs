@@ -1,6 +1,7 @@
 //! The proved library against the second implementation.
 //!
 //! `differ` runs the named cases and four million random events by fixed seeds;
+//! `differ --cases` and `differ --seeds FIRST LAST` run a part of that;
 //! `differ --seed S --events N` runs random events alone, by any seed;
 //! `differ --replay PROGRAM` compares the replay program's lines.
 //! MFP_EMULATOR names what other processes run under, where the machine needs it.
@@ -60,7 +61,17 @@ fn main() -> ExitCode {
     let words: Vec<&str> = arguments.iter().map(String::as_str).collect();
     let mut tally = Tally::default();
     match words.as_slice() {
-        [] => everything(&mut tally),
+        [] => {
+            cases(&mut tally);
+            random_events(&mut tally, SEEDS, EVENTS);
+        }
+        ["--cases"] => cases(&mut tally),
+        ["--seeds", first, last] => {
+            let (Ok(first), Ok(last)) = (first.parse(), last.parse()) else {
+                return usage();
+            };
+            random_events(&mut tally, first..=last, EVENTS);
+        }
         ["--seed", seed, "--events", events] => {
             let (Ok(seed), Ok(events)) = (seed.parse(), events.parse()) else {
                 return usage();
@@ -77,11 +88,11 @@ fn main() -> ExitCode {
 }
 
 fn usage() -> ExitCode {
-    eprintln!("usage: differ [--seed S --events N | --replay PROGRAM]");
+    eprintln!("usage: differ [--cases | --seeds FIRST LAST | --seed S --events N | --replay PROGRAM]");
     ExitCode::from(2)
 }
 
-fn everything(tally: &mut Tally) {
+fn cases(tally: &mut Tally) {
     let mut lender = Lender::new();
     tally.case("a byte outside on the left is noticed", || {
         is_noticed("left")
@@ -102,7 +113,6 @@ fn everything(tally: &mut Tally) {
     for (name, case) in cases_refusals::CASES {
         tally.case(name, || cases_refusals::run(&mut lender, *case));
     }
-    random_events(tally, SEEDS, EVENTS);
 }
 
 /// Random events by each seed; then everything must have been reached.

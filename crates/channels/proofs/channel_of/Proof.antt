@@ -15,8 +15,8 @@ any-default [] i a b h = absurd (not-suc-le-zero h)
 any-default (x ∷ l) zero a b h = refl
 any-default (x ∷ l) (suc i) a b h = any-default l i a b (le-of-suc-le-suc h)
 
-cast-at : tie.Need-cast-at
-cast-at c = search needs
+cast-number : tie.Need-cast-number
+cast-number c = search needs
 
 returns : tie.Need-returns
 unfolding channelOf
@@ -30,4 +30,4 @@ unfolding channelOf
 returns-2 c = ap channel (any-default (0 ∷ 1 ∷ 2 ∷ 3 ∷ 6 ∷ 7 ∷ 14 ∷ 15 ∷ []) (c .before .before .args .line .0) 0 16 (c .if1 .left))
 
 pub channel-of-spec : {M : Type 1} → statement M
-channel-of-spec = tie.close (tie.spec cast-at returns array-read-t7 returns-2)
+channel-of-spec = tie.close (tie.spec cast-number returns array-read-t7 returns-2)

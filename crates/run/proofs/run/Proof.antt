@@ -6,14 +6,14 @@ use lib.ListN.{length}
 use Rattle.image.specs.Image.{storedOver}
 use Rattle.events.specs.declared.Refusal.{Refusal}
 use Rattle.events.specs.Numbers.{numberOf}
-use Rattle.checks.specs.Checks.{code}
-use Rattle.checks.proofs.Checks.{passed, code-above}
+use Rattle.checks.specs.Checks.{returned}
+use Rattle.checks.proofs.Checks.{passed, returned-above}
 use Rattle.run.proofs.Results.{by-image, by-tape, refused, done}
 use Rattle.run.proofs.run.Statement.{statement}
 use Rattle.run.proofs.run.Tie as tie
 
 -- a refusal of the image is its number alone
-first : (r : Refusal) → code r 0 ≡ numberOf r
+first : (r : Refusal) → returned r 0 ≡ numberOf r
 first r = omega arith
 
 load-requires : tie.Need-load-requires
@@ -55,7 +55,7 @@ returns-2 : tie.Need-returns-2
 returns-2 c =
     let a = c .before .before .before .before .before .before .before .before .before .args in
     let r = c .before .before .l .given .0 .0 in
-    refused (a .image .now) (a .tape .now) (a .answers .now) _ (c .number-of .ensures ∙ sym (first r) ∙ sym (by-image (a .image .now) (a .tape .now) (a .answers .now) r (sym (c .before .before .before .before .load .ensures) ∙ c .before .before .l .given .1))) (λ z. code-above r 0 (first r ∙ sym (c .number-of .ensures) ∙ z))
+    refused (a .image .now) (a .tape .now) (a .answers .now) _ (c .number-of .ensures ∙ sym (first r) ∙ sym (by-image (a .image .now) (a .tape .now) (a .answers .now) r (sym (c .before .before .before .before .load .ensures) ∙ c .before .before .l .given .1))) (λ z. returned-above r 0 (first r ∙ sym (c .number-of .ensures) ∙ z))
 
 same-length-3 : tie.Need-same-length-3
 same-length-3 c = search needs

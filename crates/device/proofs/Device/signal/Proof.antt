@@ -3,7 +3,7 @@ use mathlib.Core.Path.{_≡_, sym, ap, ap₂, _∙_}
 use borrow.Author.Needs.{needs}
 use Rattle.device.specs.Signals.{measuring, signalTimers, signalTimeouts, changeRaises, signalled}
 use Rattle.events.specs.declared.Answer.the-variants.{Done}
-use Rattle.lines.specs.Signals.{signalRaises, ofInputs}
+use Rattle.signals.specs.Signals.{signalRaises, ofInputs}
 use Rattle.timeouts.specs.Clocks.{timeoutRaises, pulsedBy}
 use Rattle.timeouts.specs.declared.Advanced.{Advanced}
 use Rattle.timeouts.specs.declared.Timeouts.{Timeouts}

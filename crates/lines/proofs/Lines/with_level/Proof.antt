@@ -1,7 +1,7 @@
 -- `Lines::with_level` meets its contract. Assumes nothing.
 use borrow.Author.Needs.{needs}
 use Prim.Native.Nat.{_<_}
-use Rattle.lines.proofs.Raising.{shifted}
+use Rattle.lines.proofs.Levels.{shifted}
 use Rattle.lines.specs.Registers.{withLevel}
 use native.Mathlib.Omega.{arith}
 use borrow.Author.Tests.{le-leb, lt-leb}

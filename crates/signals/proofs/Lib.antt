@@ -1,0 +1,2 @@
+-- The laws of signals that their functions use.
+pub mod Changes

@@ -1,0 +1,3 @@
+-- Signals, and what their changes raise.
+pub mod Signals
+pub mod Private

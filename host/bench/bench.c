@@ -37,23 +37,14 @@ static uint32_t below(uint32_t bound)
     return seed % bound;
 }
 
-static void put_record(size_t at, uint8_t kind, uint8_t a, uint32_t n)
+static void put_record(size_t at, unsigned kind, unsigned a, uint32_t n)
 {
-    uint8_t *record = tape + MFP_RECORD_BYTES * at;
-
-    record[0] = MFP_RECORD_MARK_0;
-    record[1] = MFP_RECORD_MARK_1;
-    record[MFP_RECORD_KIND] = kind;
-    record[MFP_RECORD_A] = a;
-    record[MFP_RECORD_N] = (uint8_t)(n >> 24);
-    record[MFP_RECORD_N + 1] = (uint8_t)(n >> 16);
-    record[MFP_RECORD_N + 2] = (uint8_t)(n >> 8);
-    record[MFP_RECORD_N + 3] = (uint8_t)n;
+    mfp_put_record(tape + MFP_RECORD_BYTES * at, kind, a, n);
 }
 
 static void put_access(size_t at)
 {
-    uint8_t rs = (uint8_t)below(MFP_SCR);
+    uint32_t rs = below(MFP_SCR);
 
     if (below(2))
         put_record(at, MFP_READ, rs, 0);
@@ -80,16 +71,16 @@ static void put_any(size_t at)
 {
     switch (below(8)) {
     case 0:
-        put_record(at, MFP_LINE, (uint8_t)below(8), below(2));
+        put_record(at, MFP_LINE, below(8), below(2));
         break;
     case 1:
-        put_record(at, MFP_INPUT, (uint8_t)below(2), below(2));
+        put_record(at, MFP_INPUT, below(2), below(2));
         break;
     case 2:
         put_record(at, MFP_ACKNOWLEDGE, 1, 0);
         break;
     case 3:
-        put_record(at, MFP_RAISE, (uint8_t)(9 + below(4)), 0);
+        put_record(at, MFP_RAISE, MFP_CHANNEL_TRANSMIT_ERROR + below(4), 0);
         break;
     case 4:
     case 5:

@@ -88,7 +88,9 @@ fn main() -> ExitCode {
 }
 
 fn usage() -> ExitCode {
-    eprintln!("usage: differ [--cases | --seeds FIRST LAST | --seed S --events N | --replay PROGRAM]");
+    eprintln!(
+        "usage: differ [--cases | --seeds FIRST LAST | --seed S --events N | --replay PROGRAM]"
+    );
     ExitCode::from(2)
 }
 

@@ -14,7 +14,8 @@ use Rattle.image.specs.declared.Loaded.{Loaded}
 use Rattle.image.specs.declared.Loaded.the-variants.{Accepted, Refused}
 use Rattle.image.specs.declared.Saved.{Saved}
 use Rattle.events.specs.declared.Refusal.{Refusal}
-use Rattle.image.specs.Image.{imageBytes, imageOf, deviceOf, loadOf, storedOver, savedOf, savedOver}
+use Rattle.layout.specs.Layout.{imageBytes, imageOf, deviceOf}
+use Rattle.image.specs.Image.{loadOf, storedOver, savedOf, savedOver}
 use Rattle.run.specs.Runs.{resultOf, imageAfter, answersAfter}
 use Rattle.mfp.specs.Calls.{freshResult, freshOver}
 use Rattle.demands.specs.Refusals.{Given, Ends}

@@ -10,7 +10,7 @@ use Rattle.image.specs.declared.Loaded.{Loaded}
 use Rattle.image.specs.declared.Loaded.the-variants.{Accepted}
 use Rattle.image.specs.declared.Saved.{Saved}
 use Rattle.image.specs.declared.Saved.the-variants.{Written}
-use Rattle.image.specs.Image.{imageBytes, imageOf}
+use Rattle.layout.specs.Layout.{imageBytes, imageOf}
 use Rattle.answer.specs.Answers.{answerBytes}
 use Rattle.tape.specs.Tapes.{tapeMost, records}
 use Rattle.demands.specs.Refusals.{GoodImage}

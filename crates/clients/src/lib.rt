@@ -6,7 +6,7 @@ use image::Loaded;
 use image::Saved;
 ghost use mathlib.Core.Path.{_≡_};
 ghost use lib.ListN.{length};
-ghost use Rattle.image.specs.Image.{imageBytes};
+ghost use Rattle.layout.specs.Layout.{imageBytes};
 ghost use Rattle.demands.specs.Refusals.{Given, Ends};
 ghost use Rattle.clients.specs.Clients.{SavedAndLoaded, LoadedAndSaved, RanNothing, JoinedOrCut};
 

@@ -33,7 +33,7 @@ turn d t = cond (leb d (t .position + 1)) (pulsed (withPosition 0 t)) (withPosit
 
 -- a pulse moves no position
 pulsed-at : (p : ℕ) (t : Timer) → withPosition p (pulsed (withPosition 0 t)) ≡ pulsed (withPosition p t)
-unfolding pulsed withPosition reloaded countedDown
+unfolding pulsed reloaded countedDown
 pulsed-at p t = go (eqb (t .counter) 1)
   where
     go : (b : Bool) → withPosition p (cond b (reloaded (withPosition 0 t)) (countedDown (withPosition 0 t))) ≡ cond b (reloaded (withPosition p t)) (countedDown (withPosition p t))
@@ -86,23 +86,23 @@ made d n first t = pulseReloads (ranOut d n first) (withPosition 0 t)
 
 module _ (d n : ℕ) (t : Timer) where
   after-none : t .position < d → after d 0 (toGo d (t .position)) t ≡ t
-  unfolding pulses ranOut left withPosition
+  unfolding pulses ranOut left
   after-none h = ap (λ (q : ℕ). withPosition q t) (rw (toGo-below d (t .position) h) (omega arith))
 
   after-clock : t .position + 1 < d → after d n (toGo d (t .position + 1)) (withPosition (t .position + 1) t) ≡ after d (suc n) (toGo d (t .position)) t
-  unfolding ranOut left withPosition
+  unfolding ranOut left
   after-clock h = rw (early-clock d (t .position) h, zero-add, ← unit-clock d (t .position) h) refl
 
   after-pulse : 1 ≤ d → d ≤ t .position + 1 → after d n (toGo d 0) (pulsed (withPosition 0 t)) ≡ after d (suc n) (toGo d (t .position)) t
   unfolding ranOut left pulses
-  after-pulse q h = rw (last-clock d (t .position) q h, unit-pulse d (t .position) q h, one-add, toGo-below d 0 q, sub-zero, pulsed-at) refl
+  after-pulse q h = rw (last-clock d (t .position) q h, unit-pulse d (t .position) q h, one-add, toGo-below d 0 q, sub-zero) (ap (pulses (ranOut d n d)) (pulsed-at (d - left d n d) t))
 
   made-clock : t .position + 1 < d → made d n (toGo d (t .position + 1)) (withPosition (t .position + 1) t) ≡ made d (suc n) (toGo d (t .position)) t
-  unfolding ranOut withPosition
+  unfolding ranOut
   made-clock h = rw (early-clock d (t .position) h, zero-add, ← unit-clock d (t .position) h) refl
 
   made-pulse : 1 ≤ d → d ≤ t .position + 1 → cond (timeout t) 1 0 + made d n (toGo d 0) (pulsed (withPosition 0 t)) ≡ made d (suc n) (toGo d (t .position)) t
-  unfolding ranOut pulseReloads withPosition
+  unfolding ranOut pulseReloads
   made-pulse q h = rw (last-clock d (t .position) q h, unit-pulse d (t .position) q h, one-add, toGo-below d 0 q, sub-zero) (ap (λ (u : Timer). cond (eqb (t .counter) 1) 1 0 + pulseReloads (ranOut d n d) u) (pulsed-at 0 t))
 
 -- ---- the law
@@ -115,7 +115,6 @@ counted n t = made (divisor (t .mode)) n (toGo (divisor (t .mode)) (t .position)
 module _ (active : Bool) (t : Timer) (h : runs active t ≡ true) where
   -- n clocks more end where n + 1 of the timer do, and make the reloads that those make after the first
   clocked-ended : (n : ℕ) → ended n (clocked active t) ≡ ended (suc n) t
-  unfolding withPosition
   clocked-ended n =
       ap (λ (d : ℕ). after d n (toGo d (clocked active t .position)) (clocked active t)) (ap divisor (clocked-mode active t h))
       ∙ by-clock active t h (λ u. after (divisor (t .mode)) n (toGo (divisor (t .mode)) (u .position)) u ≡ ended (suc n) t)
@@ -123,7 +122,6 @@ module _ (active : Bool) (t : Timer) (h : runs active t ≡ true) where
       (λ e. after-clock (divisor (t .mode)) n t e)
 
   clocked-counted : (n : ℕ) → reloads active t + counted n (clocked active t) ≡ counted (suc n) t
-  unfolding withPosition
   clocked-counted n =
       ap (λ (d : ℕ). reloads active t + made d n (toGo d (clocked active t .position)) (clocked active t)) (ap divisor (clocked-mode active t h))
       ∙ by-clock active t h (λ u. reloads active t + made (divisor (t .mode)) n (toGo (divisor (t .mode)) (u .position)) u ≡ counted (suc n) t)
@@ -161,10 +159,10 @@ atOnce n t = record {
 }
 
 pub clocks-at-once : (active : Bool) (n : ℕ) (t : Timer) → runs active t ≡ true → t .reload < 256 → t .counter < 256 → (n ≡ 0 → ⊥) → clocks active n t ≡ atOnce n t
-unfolding pulsesIn positionAfter timeoutsIn counterAfter withPosition atPulse
+unfolding pulsesIn positionAfter timeoutsIn counterAfter atPulse
 clocks-at-once active zero t h r k p = absurd (p refl)
 clocks-at-once active (suc n) t h r k p = clocks-running active n t h ∙ pulses-at-once (pulsesIn (suc n) t) (withPosition (positionAfter (suc n) t) t) r k
 
 pub timeouts-at-once : (active : Bool) (n : ℕ) (t : Timer) → runs active t ≡ true → timeouts active n t ≡ timeoutsIn (pulsesIn n t) t
-unfolding pulsesIn timeoutsIn withPosition
+unfolding pulsesIn timeoutsIn
 timeouts-at-once active n t h = timeouts-running active n t h ∙ pulses-count (pulsesIn n t) (withPosition 0 t)

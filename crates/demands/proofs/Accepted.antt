@@ -12,7 +12,7 @@ use Rattle.interrupts.specs.Interrupts.{S, interruptRule}
 use Rattle.timers.specs.Registers.{timerRule, timersRule}
 use Rattle.device.specs.Whole.{freshDevice, imageRule}
 use Rattle.step.specs.Events.{stepOf}
-use Rattle.image.specs.Image.{imageOf, deviceOf}
+use Rattle.layout.specs.Layout.{imageOf, deviceOf}
 use Rattle.record.specs.declared.Decoded.{Decoded}
 use Rattle.record.specs.declared.Decoded.the-variants.{Valid, Invalid}
 use Rattle.record.specs.Records.{recordBytes}

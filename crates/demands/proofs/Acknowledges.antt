@@ -23,7 +23,6 @@ use Rattle.events.specs.declared.Answer.the-variants.{Done, Data, Vector, Passe
 use Rattle.device.specs.declared.Stepped.{Stepped}
 use Rattle.device.specs.Whole.{withInterrupts}
 use Rattle.events.specs.Numbers.{classOf, valueOf}
-use Rattle.device.specs.Whole.{irqOf}
 use Rattle.step.specs.Events.{replied, stepOf}
 use Rattle.tape.specs.Tapes.{records}
 use Rattle.answer.specs.Answers.{answerOf}

@@ -11,7 +11,7 @@ use Rattle.device.specs.declared.Device.{Device}
 use Rattle.events.specs.declared.Event.{Event}
 use Rattle.device.specs.declared.Stepped.{Stepped}
 use Rattle.step.specs.Events.{stepOf}
-use Rattle.image.specs.Image.{imageOf, deviceOf}
+use Rattle.layout.specs.Layout.{imageOf, deviceOf}
 use Rattle.record.specs.declared.Decoded.{Decoded}
 use Rattle.record.specs.Records.{recordBytes}
 use Rattle.tape.specs.Tapes.{decoded, records, events·at, events, eventsOf}

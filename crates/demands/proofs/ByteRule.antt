@@ -14,7 +14,8 @@ use Rattle.interrupts.specs.Interrupts.{S}
 use Rattle.interrupts.proofs.Rule.{ruled, rule-kept}
 use Rattle.timers.proofs.Rule.{all-settled, timers-ruled}
 use Rattle.device.specs.Whole.{imageRule}
-use Rattle.image.specs.Image.{interruptsFrom, timersFrom, deviceOf, unusedZero}
+use Rattle.layout.specs.Layout.{interruptsFrom, timersFrom, deviceOf}
+use Rattle.image.specs.Image.{unusedZero}
 use Rattle.demands.specs.Refusals.{PositionRuled, below-divisor, in-mode-0, in-mode-8, ImageRuled, ByteRuleIsRecordRule}
 use Rattle.demands.proofs.Decides.{Decides, equal-decided, below-decided, both-decided}
 

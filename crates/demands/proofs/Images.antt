@@ -6,7 +6,8 @@ use Rattle.timers.specs.Registers.{timersRule}
 use Rattle.timers.proofs.Rule.{all-settled}
 use Rattle.device.specs.Whole.{imageRule}
 use Rattle.image.specs.declared.Loaded.the-variants.{Accepted}
-use Rattle.image.specs.Image.{imageOf, loadOf}
+use Rattle.layout.specs.Layout.{imageOf}
+use Rattle.image.specs.Image.{loadOf}
 use Rattle.image.proofs.Loads.{read}
 use Rattle.image.proofs.Parts.{device-read, unused-written, bytes-back}
 use Rattle.demands.specs.Images.{LoadOfSave, SaveOfLoad}

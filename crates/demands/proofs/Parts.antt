@@ -15,7 +15,6 @@ use Rattle.timer.proofs.Rule.{clocks-mode}
 use Rattle.channels.specs.declared.Half.{Half}
 use Rattle.channels.specs.declared.Half.the-variants.{A as HighHalf, B as LowHalf}
 use Rattle.interrupts.specs.declared.Interrupts.{Interrupts}
-use Rattle.interrupts.specs.declared.InterruptRegister.{InterruptRegister}
 use Rattle.interrupts.specs.declared.InterruptRegister.the-variants.{Ier, Ipr, Isr, Imr, Vr}
 use Rattle.requests.specs.declared.Requesting.{Requesting}
 use Rattle.requests.specs.declared.Requesting.the-variants.{By, Nobody}
@@ -23,7 +22,6 @@ use Rattle.channels.specs.Channels.{half, withHalf}
 use Rattle.channels.specs.Raises.{raises, raisedBy}
 use Rattle.interrupts.specs.Interrupts.{clearInterrupts, kept, raised, vectorWritten, interruptWritten}
 use Rattle.requests.specs.Requests.{highest, given, acknowledgedBy, acknowledged}
-use Rattle.timers.specs.declared.Timers.{Timers}
 use Rattle.timers.specs.declared.TimerRegister.the-variants.{Tacr, Tbcr, Tcdcr, Tadr, Tbdr, Tcdr, Tddr}
 use Rattle.timeouts.specs.Clocks.{timeoutRaises}
 use Rattle.timers.specs.Registers.{timerWritten, resetTimers}
@@ -39,13 +37,13 @@ use Rattle.events.specs.declared.Event.{Event}
 use Rattle.events.specs.declared.Event.the-variants.{Reset, Read, Write, Level, Input, Clocks, Acknowledge, Raise}
 use Rattle.device.specs.declared.Device.{Device}
 use Rattle.device.specs.Signals.{timerOf, counts, signalTimers, changeRaises, signalled}
-use Rattle.step.specs.Clocks.{clocksDevice, timeoutsDevice}
+use Rattle.step.specs.Clocks.{timeoutsDevice}
 use Rattle.step.specs.Events.{writeStep}
 use Rattle.device.specs.Whole.{resetDevice}
 use Rattle.step.specs.Events.{stepOf}
 use Rattle.step.proofs.Clocks.{spanTimers, clocks-each}
 use Rattle.demands.specs.Rule.{WritesByte}
-use Rattle.demands.specs.Parts.{Name, A, B, C, D, Part, gpdr, aer, ddr, levels, tai, tbi, vector, enabled, pending, service, mask, mode, reload, counter, position, output, timerNamed, partOf, byWrite, touched, among, AnEventChangesOnlyItsRow, PartsAreAll}
+use Rattle.demands.specs.Parts.{Name, A, B, C, D, Part, gpdr, aer, ddr, levels, tai, tbi, vector, enabled, pending, service, mask, mode, reload, counter, position, output, timerNamed, partOf, touched, among, AnEventChangesOnlyItsRow, PartsAreAll}
 
 -- ---- a device that has the named parts of one device and all others of another
 module _ (ps : List Part) where
@@ -180,7 +178,7 @@ abbrev runs-on : Timer → Timer → Timer
 runs-on new old = record { mode = old .mode; reload = old .reload; counter = new .counter; position = new .position; output = new .output }
 
 clocked-reload : (active : Bool) (t : Timer) → clocked active t .reload ≡ t .reload
-unfolding clocked withPosition
+unfolding clocked
 clocked-reload active t = go (runs active t) (atDivisor t)
   where
     go : (r d : Bool) → cond (r && d) (pulsed (withPosition 0 t)) (cond r (withPosition (t .position + 1) t) t) .reload ≡ t .reload

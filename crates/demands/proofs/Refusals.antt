@@ -13,7 +13,8 @@ use Rattle.events.specs.declared.Refusal.{Refusal}
 use Rattle.events.specs.declared.Refusal.the-variants.{ImageLength, ImageMark, ImageRule, TapeLength, RecordMark, Kind, Operand, Serial, AnswerLength}
 use Rattle.device.specs.Whole.{imageRule}
 use Rattle.image.specs.declared.Loaded.the-variants.{Accepted, Refused}
-use Rattle.image.specs.Image.{imageBytes, deviceOf, unusedZero, loadOf}
+use Rattle.layout.specs.Layout.{imageBytes, deviceOf}
+use Rattle.image.specs.Image.{unusedZero, loadOf}
 use Rattle.bits.specs.Bytes.{byte}
 use Rattle.bits.proofs.Bits.{halves, joined}
 use Rattle.image.proofs.Loads.{read}
@@ -28,7 +29,7 @@ use Rattle.tape.specs.Tapes.{tapeMost}
 use Rattle.checks.specs.Checks.{returned}
 use Rattle.run.specs.Runs.{resultOf, imageAfter, answersAfter}
 use Rattle.checks.proofs.Checks.{returned-above, uneven, too-long, bad, roomy, cramped}
-use Rattle.run.proofs.Results.{by-image, by-tape, refused}
+use Rattle.run.proofs.Results.{by-image, by-tape}
 use Rattle.demands.specs.Refusals.{ImageMarked, ImageRuled, GoodImage, GoodRecord, GoodBefore, ChecksReach, Given, image-length-wrong, image-mark-wrong, image-rule-broken, tape-length-wrong, record-mark-wrong, kind-above-7, operand-out-of-range, serial-register, answers-too-short, not-refused, EachCallHasItsRow, NoOtherRow, Ends, with-answers, with-refusal, AnsweredOrRefused, GoodImageLoads}
 use Rattle.demands.proofs.Decides.{Decides, equal-decided, both-decided, not-passed, not-held}
 use Rattle.demands.proofs.ByteRule.{byte-rule-is-record-rule}

@@ -3,10 +3,8 @@ use Prim.Native.Nat.{ℕ, _<_}
 use mathlib.Core.Path.{_≡_}
 use mathlib.Core.Bool.{true}
 use Rattle.bits.proofs.Bits.{halves, joined}
-use Rattle.interrupts.specs.declared.Interrupts.{Interrupts}
 use Rattle.interrupts.proofs.Rule.{Ruled, ruled, rule-kept, raise-ruled, written-ruled, clear-ruled}
 use Rattle.requests.proofs.Rule.{acknowledged-ruled}
-use Rattle.timers.specs.declared.Timers.{Timers}
 use Rattle.timers.proofs.Rule.{AllSettled, all-settled, timers-ruled, reset-settles, written-settles}
 use Rattle.timeouts.proofs.Rule.{pulses-settle, clocks-settle}
 use Rattle.lines.specs.declared.Lines.{Lines}

@@ -20,7 +20,7 @@ use Rattle.step.specs.Events.{stepOf}
 use Rattle.bits.specs.Bits.{bitValue}
 use Rattle.events.specs.Numbers.{classOf, valueOf}
 use Rattle.bits.specs.Bytes.{byte}
-use Rattle.image.specs.Image.{imageOf, deviceOf}
+use Rattle.layout.specs.Layout.{imageOf, deviceOf}
 use Rattle.record.specs.Records.{recordBytes}
 use Rattle.tape.specs.Tapes.{decoded, records, events}
 use Rattle.answer.specs.Answers.{answerBytes, answerMark0, answerMark1, answerOf, headBytes}

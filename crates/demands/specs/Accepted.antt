@@ -7,7 +7,8 @@ use Rattle.device.specs.declared.Device.{Device}
 use Rattle.events.specs.declared.Event.{Event}
 use Rattle.device.specs.Whole.{freshDevice, imageRule}
 use Rattle.image.specs.declared.Loaded.the-variants.{Accepted}
-use Rattle.image.specs.Image.{imageOf, deviceOf, loadOf}
+use Rattle.layout.specs.Layout.{imageOf, deviceOf}
+use Rattle.image.specs.Image.{loadOf}
 use Rattle.tape.specs.Tapes.{eventsOf}
 use Rattle.run.specs.Runs.{runOf, resultOf, imageAfter, answersAfter}
 use Rattle.demands.specs.Rule.{WritesByte}

@@ -6,7 +6,8 @@ use mathlib.Core.List.{List}
 use Rattle.device.specs.declared.Device.{Device}
 use Rattle.device.specs.Whole.{imageRule}
 use Rattle.image.specs.declared.Loaded.the-variants.{Accepted}
-use Rattle.image.specs.Image.{imageOf, loadOf}
+use Rattle.layout.specs.Layout.{imageOf}
+use Rattle.image.specs.Image.{loadOf}
 use Rattle.bits.specs.Bytes.{byte}
 
 abbrev pub LoadOfSave : Type 0

@@ -12,7 +12,8 @@ use Rattle.events.specs.declared.Event.{Event}
 use Rattle.events.specs.declared.Refusal.the-variants.{TapeLength}
 use Rattle.device.specs.Whole.{imageRule}
 use Rattle.image.specs.declared.Loaded.the-variants.{Accepted}
-use Rattle.image.specs.Image.{imageBytes, imageOf, deviceOf, unusedZero, loadOf}
+use Rattle.layout.specs.Layout.{imageBytes, imageOf, deviceOf}
+use Rattle.image.specs.Image.{unusedZero, loadOf}
 use Rattle.bits.specs.Bytes.{byte, number}
 use Rattle.record.specs.declared.Decoded.the-variants.{Valid}
 use Rattle.record.specs.Records.{recordBytes}

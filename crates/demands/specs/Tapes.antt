@@ -8,7 +8,7 @@ use Rattle.device.specs.declared.Device.{Device}
 use Rattle.events.specs.declared.Event.{Event}
 use Rattle.events.specs.declared.Event.the-variants.{Clocks}
 use Rattle.bits.specs.Bytes.{byte, number, four}
-use Rattle.image.specs.Image.{deviceOf}
+use Rattle.layout.specs.Layout.{deviceOf}
 use Rattle.record.specs.Records.{recordBytes, recordMark0, recordMark1}
 use Rattle.tape.specs.Tapes.{tapeMost, decoded, records, events}
 use Rattle.answer.specs.Answers.{answerBytes, headBytes, countBytes}

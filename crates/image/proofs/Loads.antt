@@ -13,7 +13,8 @@ use Rattle.events.specs.declared.Refusal.the-variants.{ImageLength, ImageMark, 
 use Rattle.device.specs.Whole.{imageRule}
 use Rattle.image.specs.declared.Loaded.the-variants.{Accepted, Refused}
 use Rattle.bits.specs.Bytes.{byte}
-use Rattle.image.specs.Image.{imageBytes, imageMark0, imageMark1, deviceOf, unusedZero, loadOf}
+use Rattle.layout.specs.Layout.{imageBytes, imageMark0, imageMark1, deviceOf}
+use Rattle.image.specs.Image.{unusedZero, loadOf}
 
 never : {X : Type 0} {r : Refusal} {d : Device} → Refused r ≡ Accepted d → X
 never e = let z : _≡_ {A = ℕ} 0 1 = cc in absurd (omega arith)

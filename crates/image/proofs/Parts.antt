@@ -18,7 +18,8 @@ use Rattle.channels.proofs.Tables.{everywhere, same}
 use Rattle.timers.specs.Registers.{tcdcrOf, outputsOf}
 use Rattle.timers.proofs.Rule.{AllSettled}
 use Rattle.device.specs.declared.Device.{Device}
-use Rattle.image.specs.Image.{imageBytes, imageMark0, imageMark1, lineBytes, interruptBytes, timerBytes, levelBytes, imageOf, linesFrom, interruptsFrom, timersFrom, deviceOf, unusedZero}
+use Rattle.layout.specs.Layout.{imageBytes, imageMark0, imageMark1, lineBytes, interruptBytes, timerBytes, levelBytes, imageOf, linesFrom, interruptsFrom, timersFrom, deviceOf}
+use Rattle.image.specs.Image.{unusedZero}
 
 -- ---- a test at every truth value
 abbrev eachBool : (Bool → Bool) → Bool

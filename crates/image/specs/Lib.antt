@@ -1,2 +1,2 @@
--- The 32-byte image of a device, both ways.
+-- Load and save of an image.
 pub mod Image

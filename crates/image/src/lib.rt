@@ -1,20 +1,16 @@
-// The 32-byte image of a device: load, save, store. The layout stands in specs/Image.antt. No
-// function has a `requires` but the private readers, which want a whole image.
+// The 32-byte image of a device: load, save, store. The rules stand in specs/Image.antt, the table of
+// bytes in crate layout. No public function has a `requires`.
 use channels::Half;
 use device::Device;
 use events::Refusal;
-use interrupts::Interrupts;
+use layout::IMAGE_BYTES;
 use lines::Lines;
-use timer::Timer;
-use timers::Timers;
 ghost use mathlib.Core.Path.{_≡_};
-ghost use Prim.Native.Nat.{_+_, _*_, _<_};
+ghost use Prim.Native.Nat.{_+_, _<_};
 ghost use lib.ListN.{length};
-ghost use Rattle.channels.specs.Channels.{has};
 ghost use Rattle.bits.specs.Bits.{bitValue};
-ghost use Rattle.image.specs.Image.{imageBytes, imageOf, linesFrom, interruptsFrom, timersFrom, timerFrom, unusedZero, loadOf, storedOver, savedOf, savedOver};
-
-pub const IMAGE_BYTES: usize = 32;
+ghost use Rattle.layout.specs.Layout.{imageBytes, imageOf};
+ghost use Rattle.image.specs.Image.{unusedZero, loadOf, storedOver, savedOf, savedOver};
 
 const MARK_0: u8 = 77;
 
@@ -28,77 +24,6 @@ pub enum Loaded {
 pub enum Saved {
     Written,
     NotWritten(Refusal),
-}
-
-// A set of channels from its registers A and B.
-fn pair(a: u8, b: u8) -> u16
-    ensures { λ r. ⌜ r ≡ a * 256 + b ⌝ }
-{
-    a as u16 * 256 + b as u16
-}
-
-fn bit_at(b: u8, k: u8) -> bool
-    requires { ⌜ k < 8 ⌝ }
-    ensures { λ r. ⌜ r ≡ has b k ⌝ }
-{
-    (b >> k) % 2 == 1
-}
-
-fn lines_from(image: &[u8]) -> Lines
-    requires { ⌜ length (now image) ≡ imageBytes ⌝ }
-    ensures { λ r. ⌜ r ≡ linesFrom (now (image .entry)) ⌝ }
-{
-    let inputs = image[31];
-    Lines {
-        gpdr: image[2],
-        aer: image[3],
-        ddr: image[4],
-        levels: image[30],
-        tai: bit_at(inputs, 0),
-        tbi: bit_at(inputs, 1),
-    }
-}
-
-fn interrupts_from(image: &[u8]) -> Interrupts
-    requires { ⌜ length (now image) ≡ imageBytes ⌝ }
-    ensures { λ r. ⌜ r ≡ interruptsFrom (now (image .entry)) ⌝ }
-{
-    Interrupts {
-        enabled: pair(image[5], image[6]),
-        pending: pair(image[7], image[8]),
-        service: pair(image[9], image[10]),
-        mask: pair(image[11], image[12]),
-        vector: image[13],
-    }
-}
-
-// The timer whose data value stands at byte `at`, with this mode and output.
-fn timer_from(image: &[u8], at: usize, mode: u8, output: bool) -> Timer
-    requires { ⌜ length (now image) ≡ imageBytes ⌝ }
-    requires { ⌜ at + 8 < imageBytes ⌝ }
-    ensures { λ r. ⌜ r ≡ timerFrom (now (image .entry)) at mode output ⌝ }
-{
-    Timer {
-        mode: mode,
-        reload: image[at],
-        counter: image[at + 4],
-        position: image[at + 8],
-        output: output,
-    }
-}
-
-fn timers_from(image: &[u8]) -> Timers
-    requires { ⌜ length (now image) ≡ imageBytes ⌝ }
-    ensures { λ r. ⌜ r ≡ timersFrom (now (image .entry)) ⌝ }
-{
-    let tcdcr = image[16];
-    let outputs = image[29];
-    Timers {
-        a: timer_from(image, 17, image[14], bit_at(outputs, 0)),
-        b: timer_from(image, 18, image[15], bit_at(outputs, 1)),
-        c: timer_from(image, 19, tcdcr / 16 % 8, bit_at(outputs, 2)),
-        d: timer_from(image, 20, tcdcr % 8, bit_at(outputs, 3)),
-    }
 }
 
 // Whether the unused bits of bytes 16, 29 and 31 are zero.
@@ -135,9 +60,9 @@ pub fn load(image: &[u8]) -> Loaded
         return Loaded::Refused(Refusal::ImageRule);
     }
     let d = Device {
-        lines: lines_from(image),
-        interrupts: interrupts_from(image),
-        timers: timers_from(image),
+        lines: layout::lines_from(image),
+        interrupts: layout::interrupts_from(image),
+        timers: layout::timers_from(image),
     };
     if !d.keeps_rule() {
         return Loaded::Refused(Refusal::ImageRule);

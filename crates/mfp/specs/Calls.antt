@@ -7,7 +7,8 @@ use lib.ListN.{length}
 use Rattle.events.specs.declared.Refusal.the-variants.{ImageLength}
 use Rattle.events.specs.Numbers.{numberOf}
 use Rattle.device.specs.Whole.{freshDevice}
-use Rattle.image.specs.Image.{imageBytes, storedOver}
+use Rattle.layout.specs.Layout.{imageBytes}
+use Rattle.image.specs.Image.{storedOver}
 
 -- 1: "image buffer is not 32 bytes", else 0
 unfoldable pub freshResult : List ℕ → ℕ

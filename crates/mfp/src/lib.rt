@@ -19,7 +19,7 @@ pub extern "C" fn mfp_run(image: &mut [u8], tape: &[u8], answers: &mut [u8]) -> 
 pub extern "C" fn mfp_fresh(image: &mut [u8]) -> u32
     ensures { λ r. ⌜ (r ≡ freshResult (now (image .entry))) × (now (image .exit) ≡ freshOver (now (image .entry))) ⌝ }
 {
-    if image.len() != image::IMAGE_BYTES {
+    if image.len() != layout::IMAGE_BYTES {
         return 1;
     }
     image::store(Device::fresh(), image);

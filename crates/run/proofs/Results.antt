@@ -11,7 +11,8 @@ use Rattle.device.specs.declared.Device.{Device}
 use Rattle.events.specs.declared.Refusal.{Refusal}
 use Rattle.image.specs.declared.Loaded.{Loaded}
 use Rattle.image.specs.declared.Loaded.the-variants.{Accepted, Refused}
-use Rattle.image.specs.Image.{imageOf, loadOf, storedOver}
+use Rattle.layout.specs.Layout.{imageOf}
+use Rattle.image.specs.Image.{loadOf, storedOver}
 use Rattle.image.proofs.Loads.{Read, read}
 use Rattle.tape.specs.Tapes.{records, eventsOf}
 use Rattle.checks.specs.Checks.{returned, tapeResult}

@@ -7,7 +7,8 @@ use lib.ListN.{length, drop}
 use Rattle.device.specs.declared.Device.{Device}
 use Rattle.events.specs.declared.Event.{Event}
 use Rattle.step.specs.Events.{stepOf}
-use Rattle.image.specs.Image.{imageOf, deviceOf, loadOf}
+use Rattle.layout.specs.Layout.{imageOf, deviceOf}
+use Rattle.image.specs.Image.{loadOf}
 use Rattle.image.specs.declared.Loaded.{Loaded}
 use Rattle.image.specs.declared.Loaded.the-variants.{Accepted, Refused}
 use Rattle.answer.specs.Answers.{answerBytes, answerOf}

@@ -80,14 +80,12 @@ module _ (active : Bool) (t : Timer) (h : runs active t ≡ true) where
   least = le-trans (lit≤ tt) (running-divisor active t h)
 
   pub clocked-mode : clocked active t .mode ≡ t .mode
-  unfolding withPosition
   clocked-mode = by-clock (λ u. u .mode ≡ t .mode) (λ e. pulsed-mode (withPosition 0 t)) (λ e. refl)
 
   pub clocked-runs : runs active (clocked active t) ≡ true
   clocked-runs = same-runs active (clocked active t) t clocked-mode ∙ h
 
   pub clocked-below : clocked active t .position < divisor (clocked active t .mode)
-  unfolding withPosition
   clocked-below = rw clocked-mode (by-clock (λ u. u .position < divisor (t .mode)) (λ e. rw (pulsed-position (withPosition 0 t)) least) (λ e. e))
 
   pub reloads-pulse : divisor (t .mode) ≤ t .position + 1 → reloads active t ≡ cond (timeout t) 1 0

@@ -26,7 +26,10 @@ unfoldable pub runs : Bool → Timer → Bool
 runs active t = delay (t .mode) || pulseWidth (t .mode) && active
 
 -- ---- the timer with one part stored
-unfoldable pub withPosition : ℕ → Timer → Timer
+abbrev pub withMode : ℕ → Timer → Timer
+withMode m t = record { mode = m; reload = t .reload; counter = t .counter; position = t .position; output = t .output }
+
+abbrev pub withPosition : ℕ → Timer → Timer
 withPosition p t = record { mode = t .mode; reload = t .reload; counter = t .counter; position = p; output = t .output }
 
 abbrev pub withReload : ℕ → Timer → Timer
@@ -83,7 +86,7 @@ timeouts active (suc n) t = reloads active t + timeouts active n (clocked active
 -- ---- writes, reset and fresh
 -- "A control write that changes the mode sets the position to 0; the same mode again keeps it. The counter stays." "bit 4 written 1 forces the timer's output low"
 unfoldable pub controlled : ℕ → Bool → Timer → Timer
-controlled mode low t = record { mode = mode; reload = t .reload; counter = t .counter; position = cond (eqb mode (t .mode)) (t .position) 0; output = not low && t .output }
+controlled mode low t = withMode mode (withPosition (cond (eqb mode (t .mode)) (t .position) 0) (withOutput (not low && t .output) t))
 
 -- Timer data: "A write stores the data value, and the counter too if the mode is 0."
 unfoldable pub reloadWritten : ℕ → Timer → Timer
@@ -91,7 +94,7 @@ reloadWritten v t = withCounter (cond (eqb (t .mode) 0) v (t .counter)) (withRel
 
 -- "Reset clears [..] modes, positions and outputs; data values, counters [..] stay."
 abbrev pub resetTimer : Timer → Timer
-resetTimer t = record { mode = 0; reload = t .reload; counter = t .counter; position = 0; output = false }
+resetTimer t = withMode 0 (withPosition 0 (withOutput false t))
 
 -- "A fresh device is all zero."
 abbrev pub freshTimer : Timer

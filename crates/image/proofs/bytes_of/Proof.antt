@@ -1,7 +1,7 @@
 -- `image::bytes_of` meets its contract, byte by byte. Assumes nothing.
 use borrow.Author.Needs.{needs}
 use mathlib.Core.List.{[], _∷_}
-use Rattle.image.specs.Image.{imageMark0, imageMark1, imageOf}
+use Rattle.layout.specs.Layout.{imageMark0, imageMark1, imageOf}
 use Rattle.image.proofs.bytes_of.Statement.{statement}
 use Rattle.image.proofs.bytes_of.Tie as tie
 

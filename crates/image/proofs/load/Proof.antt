@@ -10,7 +10,8 @@ use Rattle.timers.specs.declared.Timers.{Timers}
 use Rattle.device.specs.declared.Device.{Device}
 use Rattle.device.specs.Whole.{imageRule}
 use Rattle.image.specs.declared.Loaded.the-variants.{Accepted}
-use Rattle.image.specs.Image.{linesFrom, interruptsFrom, timersFrom, deviceOf, loadOf}
+use Rattle.layout.specs.Layout.{linesFrom, interruptsFrom, timersFrom, deviceOf}
+use Rattle.image.specs.Image.{loadOf}
 use Rattle.image.proofs.load.Statement.{statement}
 use Rattle.image.proofs.load.Tie as tie
 

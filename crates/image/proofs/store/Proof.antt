@@ -7,7 +7,8 @@ use lib.ListN.{length, take, drop}
 use lib.Seq.{take-length, drop-length}
 use borrow.Author.Tests.{eq-eqb, ne-eqb}
 use Rattle.device.specs.declared.Device.{Device}
-use Rattle.image.specs.Image.{imageOf, storedOver}
+use Rattle.layout.specs.Layout.{imageOf}
+use Rattle.image.specs.Image.{storedOver}
 use Rattle.image.proofs.store.Statement.{statement}
 use Rattle.image.proofs.store.Tie as tie
 

@@ -1,6 +1,6 @@
 -- `mfp::mfp_fresh` meets its contract: a buffer of an image's length takes the fresh device. Assumes nothing.
 use borrow.Author.Needs.{needs}
-use mathlib.Core.Path.{_≡_, refl, sym, ap, ap₂, _∙_}
+use mathlib.Core.Path.{refl, ap, _∙_}
 use borrow.Author.Tests.{eq-eqb, ne-eqb}
 use Rattle.image.specs.Image.{storedOver}
 use Rattle.mfp.specs.Calls.{freshResult, freshOver}

@@ -2,7 +2,6 @@
 use mathlib.Core.Path.{_∙_, sym}
 use borrow.Author.Needs.{needs}
 use borrow.Author.Tests.{not-true, not-false}
-use Rattle.timer.specs.Timers.{withPosition}
 use Rattle.timer.proofs.Clocked.{clock-idle, clock-pulse, clock-on}
 use Rattle.timer.proofs.Timer.clock.Statement.{statement}
 use Rattle.timer.proofs.Timer.clock.Tie as tie
@@ -29,7 +28,6 @@ pulse-requires : tie.Need-pulse-requires
 pulse-requires c κs = search needs
 
 returns-2 : tie.Need-returns-2
-unfolding withPosition
 returns-2 c =
     let a = c .before .before .before .before .before .before .args in
     let e = c .before .before .before .divisor-of .ensures in
@@ -39,7 +37,6 @@ cast-t : tie.Need-cast-t
 cast-t c = search needs
 
 returns-3 : tie.Need-returns-3
-unfolding withPosition
 returns-3 c =
     let a = c .before .before .before .before .before .args in
     let e = c .before .before .divisor-of .ensures in

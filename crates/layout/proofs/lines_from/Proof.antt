@@ -1,9 +1,9 @@
--- `image::lines_from` meets its contract, byte by byte. Assumes nothing.
+-- `layout::lines_from` meets its contract, byte by byte. Assumes nothing.
 use borrow.Author.Needs.{needs}
 use Rattle.bits.specs.Bytes.{byte}
-use Rattle.image.specs.Image.{linesFrom}
-use Rattle.image.proofs.lines_from.Statement.{statement}
-use Rattle.image.proofs.lines_from.Tie as tie
+use Rattle.layout.specs.Layout.{linesFrom}
+use Rattle.layout.proofs.lines_from.Statement.{statement}
+use Rattle.layout.proofs.lines_from.Tie as tie
 
 shared-slice-read-inputs : tie.Need-shared-slice-read-inputs
 shared-slice-read-inputs c = search needs

@@ -1,11 +1,11 @@
--- `image::timers_from` meets its contract, timer by timer. Assumes nothing.
+-- `layout::timers_from` meets its contract, timer by timer. Assumes nothing.
 use borrow.Author.Needs.{needs}
 use Prim.Native.Nat.{_/_, _%_}
 use mathlib.Core.Path.{ap, _∙_}
 use Rattle.bits.specs.Bytes.{byte}
-use Rattle.image.specs.Image.{timersFrom, timerFrom}
-use Rattle.image.proofs.timers_from.Statement.{statement}
-use Rattle.image.proofs.timers_from.Tie as tie
+use Rattle.layout.specs.Layout.{timersFrom, timerFrom}
+use Rattle.layout.proofs.timers_from.Statement.{statement}
+use Rattle.layout.proofs.timers_from.Tie as tie
 
 shared-slice-read-tcdcr : tie.Need-shared-slice-read-tcdcr
 shared-slice-read-tcdcr c = search needs

@@ -1,9 +1,9 @@
--- `image::bit_at` meets its contract. Assumes nothing.
+-- `layout::bit_at` meets its contract. Assumes nothing.
 use borrow.Author.Needs.{needs}
 use mathlib.Core.Path.{refl}
 use Rattle.channels.specs.Channels.{has}
-use Rattle.image.proofs.bit_at.Statement.{statement}
-use Rattle.image.proofs.bit_at.Tie as tie
+use Rattle.layout.proofs.bit_at.Statement.{statement}
+use Rattle.layout.proofs.bit_at.Tie as tie
 
 shr-result : tie.Need-shr-result
 shr-result c = search needs

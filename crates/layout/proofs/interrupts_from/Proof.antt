@@ -1,9 +1,9 @@
--- `image::interrupts_from` meets its contract, register by register. Assumes nothing.
+-- `layout::interrupts_from` meets its contract, register by register. Assumes nothing.
 use borrow.Author.Needs.{needs}
 use Rattle.bits.specs.Bytes.{byte}
-use Rattle.image.specs.Image.{interruptsFrom}
-use Rattle.image.proofs.interrupts_from.Statement.{statement}
-use Rattle.image.proofs.interrupts_from.Tie as tie
+use Rattle.layout.specs.Layout.{interruptsFrom}
+use Rattle.layout.proofs.interrupts_from.Statement.{statement}
+use Rattle.layout.proofs.interrupts_from.Tie as tie
 
 shared-slice-read-pair : tie.Need-shared-slice-read-pair
 shared-slice-read-pair c = search needs

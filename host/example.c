@@ -2,95 +2,91 @@
  * example.c - a small host: it sets up timer C and a line interrupt, lets
  * clocks go by, and acknowledges what comes, as an emulator's main loop does.
  *
- * A host may put many events on one tape. This one plays them one by one,
- * which is the simplest way to react to each.
+ * The set-up is one tape of six records. What comes after it is played event
+ * by event, which is the simplest way to react to each.
  */
 #include <stdio.h>
 #include <stdlib.h>
 
 #include "mfp.h"
 
-enum { LINE_5_CHANNEL = 7, TIMER_C_CHANNEL = 5 };
+enum { SET_UP_RECORDS = 6 };
 
-static void put32(uint8_t *bytes, uint32_t n)
+/* End the program if a call that it knows to be right was refused. */
+static void must(uint32_t code)
 {
-    bytes[0] = (uint8_t)(n >> 24);
-    bytes[1] = (uint8_t)(n >> 16);
-    bytes[2] = (uint8_t)(n >> 8);
-    bytes[3] = (uint8_t)n;
-}
-
-static uint32_t get32(const uint8_t *bytes)
-{
-    return (uint32_t)bytes[0] << 24 | (uint32_t)bytes[1] << 16 | (uint32_t)bytes[2] << 8 |
-           bytes[3];
-}
-
-/* One event on a tape of its own; what mfp_run returns. */
-static uint32_t try_event(uint8_t *image, uint8_t kind, uint8_t a, uint32_t n, uint8_t *answer)
-{
-    uint8_t tape[MFP_RECORD_BYTES] = {MFP_RECORD_MARK_0, MFP_RECORD_MARK_1, 0, 0, 0, 0, 0, 0};
-
-    tape[MFP_RECORD_KIND] = kind;
-    tape[MFP_RECORD_A] = a;
-    put32(tape + MFP_RECORD_N, n);
-    return mfp_run(image, MFP_IMAGE_BYTES, tape, sizeof tape, answer, MFP_ANSWER_BYTES);
-}
-
-/* The same for an event that this program knows to be right. */
-static void event(uint8_t *image, uint8_t kind, uint8_t a, uint32_t n, uint8_t *answer)
-{
-    uint32_t code = try_event(image, kind, a, n, answer);
-
     if (code != 0) {
-        fprintf(stderr, "refused %lu\n", (unsigned long)MFP_REFUSAL(code));
+        fprintf(stderr, "refused, record %lu: %s\n", (unsigned long)mfp_refused_record(code),
+                mfp_refusal_text(mfp_refusal(code)));
         exit(EXIT_FAILURE);
     }
 }
 
-static void write_register(uint8_t *image, uint8_t rs, uint8_t value)
+/* One record, a tape of its own; what mfp_run returns. */
+static uint32_t play(uint8_t *image, const uint8_t *record, uint8_t *answer)
 {
-    uint8_t answer[MFP_ANSWER_BYTES];
-
-    event(image, MFP_WRITE, rs, value, answer);
+    return mfp_run(image, MFP_IMAGE_BYTES, record, MFP_RECORD_BYTES, answer, MFP_ANSWER_BYTES);
 }
 
 static void set_up(uint8_t *image)
 {
-    if (mfp_fresh(image, MFP_IMAGE_BYTES) != 0)
-        exit(EXIT_FAILURE);
-    write_register(image, MFP_VR, 0x48);    /* vectors 40 to 4F, service remembered */
-    write_register(image, MFP_AER, 0x20);   /* line 5 interrupts when it goes high */
-    write_register(image, MFP_IERB, 0xA0);  /* channels 7 and 5 enabled */
-    write_register(image, MFP_IMRB, 0xA0);  /* and not masked */
-    write_register(image, MFP_TCDR, 6);     /* six count pulses a timeout */
-    write_register(image, MFP_TCDCR, 0x10); /* timer C, a count pulse every 4 clocks */
+    uint8_t tape[SET_UP_RECORDS * MFP_RECORD_BYTES];
+    uint8_t answers[SET_UP_RECORDS * MFP_ANSWER_BYTES];
+    uint8_t *end = tape;
+
+    must(mfp_fresh(image, MFP_IMAGE_BYTES));
+    end = mfp_put_write(end, MFP_VR, 0x48);    /* vectors 40 to 4F, service remembered */
+    end = mfp_put_write(end, MFP_AER, 0x20);   /* line 5 interrupts when it goes high */
+    end = mfp_put_write(end, MFP_IERB, 0xA0);  /* channels 7 and 5 enabled */
+    end = mfp_put_write(end, MFP_IMRB, 0xA0);  /* and not masked */
+    end = mfp_put_write(end, MFP_TCDR, 6);     /* six count pulses a timeout */
+    end = mfp_put_write(end, MFP_TCDCR, 0x10); /* timer C, a count pulse every 4 clocks */
+    must(mfp_run(image, MFP_IMAGE_BYTES, tape, (size_t)(end - tape), answers, sizeof answers));
     printf("timer C times out every 24 clocks, line 5 interrupts when it goes high\n");
 }
 
 static void clocks(uint8_t *image, uint32_t n)
 {
-    uint8_t answer[MFP_ANSWER_BYTES];
+    uint8_t record[MFP_RECORD_BYTES], answer[MFP_ANSWER_BYTES];
 
-    event(image, MFP_CLOCKS, 0, n, answer);
+    mfp_put_clocks(record, n);
+    must(play(image, record, answer));
     printf("%lu clocks, timeouts of timer C: %lu\n", (unsigned long)n,
-           (unsigned long)get32(answer + MFP_ANSWER_TIMEOUTS + 8));
+           (unsigned long)mfp_answer_timeouts(answer, MFP_TIMER_C));
 }
 
-static void line_5(uint8_t *image, uint32_t level)
+static void line_5(uint8_t *image, bool level)
 {
-    uint8_t answer[MFP_ANSWER_BYTES];
+    uint8_t record[MFP_RECORD_BYTES], answer[MFP_ANSWER_BYTES];
 
-    event(image, MFP_LINE, 5, level, answer);
+    mfp_put_line(record, 5, level);
+    must(play(image, record, answer));
     printf("line 5 goes %s\n", level ? "high" : "low");
+}
+
+static void acknowledge(uint8_t *image, uint8_t *answer)
+{
+    uint8_t record[MFP_RECORD_BYTES];
+
+    mfp_put_acknowledge(record, true);
+    must(play(image, record, answer));
+}
+
+/* End of service: a 0 clears the channel's bit, the 1s leave the others. */
+static void end_service(uint8_t *image, unsigned channel)
+{
+    uint8_t record[MFP_RECORD_BYTES], answer[MFP_ANSWER_BYTES];
+
+    mfp_put_write(record, MFP_ISRB, 0xFFu ^ 1u << channel);
+    must(play(image, record, answer));
 }
 
 static const char *channel_name(unsigned channel)
 {
     switch (channel) {
-    case LINE_5_CHANNEL:
+    case MFP_CHANNEL_LINE_5:
         return "line 5";
-    case TIMER_C_CHANNEL:
+    case MFP_CHANNEL_TIMER_C:
         return "timer C";
     default:
         return "a channel that was never enabled";
@@ -102,25 +98,27 @@ static void serve(uint8_t *image)
 {
     uint8_t answer[MFP_ANSWER_BYTES];
 
-    event(image, MFP_ACKNOWLEDGE, 1, 0, answer);
-    while (answer[MFP_ANSWER_CLASS] == MFP_VECTOR) {
-        unsigned channel = answer[MFP_ANSWER_VALUE] & 15u;
+    acknowledge(image, answer);
+    while (mfp_answer_class(answer) == MFP_VECTOR) {
+        unsigned vector = mfp_answer_value(answer);
+        unsigned channel = vector & 15u;
 
-        printf("  vector %02X: %s\n", (unsigned)answer[MFP_ANSWER_VALUE], channel_name(channel));
-        /* End of service: a 0 clears the bit, the 1s leave the others. */
-        write_register(image, MFP_ISRB, (uint8_t)~(1u << channel));
-        event(image, MFP_ACKNOWLEDGE, 1, 0, answer);
+        printf("  vector %02X: %s\n", vector, channel_name(channel));
+        end_service(image, channel);
+        acknowledge(image, answer);
     }
     printf("  nothing more to serve\n");
 }
 
 static void show_refusal(uint8_t *image)
 {
-    uint8_t answer[MFP_ANSWER_BYTES];
-    uint32_t code = try_event(image, MFP_READ, MFP_UDR, 0, answer);
+    uint8_t record[MFP_RECORD_BYTES], answer[MFP_ANSWER_BYTES];
+    uint32_t code;
 
-    printf("reading UDR is refused: number %lu, record %lu\n", (unsigned long)MFP_REFUSAL(code),
-           (unsigned long)MFP_RECORD_INDEX(code));
+    mfp_put_read(record, MFP_UDR);
+    code = play(image, record, answer);
+    printf("reading UDR is refused: number %u, record %lu, %s\n", mfp_refusal(code),
+           (unsigned long)mfp_refused_record(code), mfp_refusal_text(mfp_refusal(code)));
 }
 
 int main(void)
@@ -133,11 +131,11 @@ int main(void)
         clocks(image, 10);
         serve(image);
     }
-    line_5(image, 1);
+    line_5(image, true);
     serve(image);
-    line_5(image, 0);
+    line_5(image, false);
     clocks(image, 20);
-    line_5(image, 1);
+    line_5(image, true);
     serve(image);
     clocks(image, 4294967295u);
     serve(image);

@@ -58,23 +58,14 @@ static uint32_t below(uint32_t bound)
     return seed % bound;
 }
 
-static void put_record(size_t at, uint8_t kind, uint8_t a, uint32_t n)
+static void put_record(size_t at, unsigned kind, unsigned a, uint32_t n)
 {
-    uint8_t *record = tape + MFP_RECORD_BYTES * at;
-
-    record[0] = MFP_RECORD_MARK_0;
-    record[1] = MFP_RECORD_MARK_1;
-    record[MFP_RECORD_KIND] = kind;
-    record[MFP_RECORD_A] = a;
-    record[MFP_RECORD_N] = (uint8_t)(n >> 24);
-    record[MFP_RECORD_N + 1] = (uint8_t)(n >> 16);
-    record[MFP_RECORD_N + 2] = (uint8_t)(n >> 8);
-    record[MFP_RECORD_N + 3] = (uint8_t)n;
+    mfp_put_record(tape + MFP_RECORD_BYTES * at, kind, a, n);
 }
 
 static void put_access(size_t at)
 {
-    uint8_t rs = (uint8_t)below(MFP_SCR);
+    uint32_t rs = below(MFP_SCR);
 
     if (below(2))
         put_record(at, MFP_READ, rs, 0);
@@ -98,9 +89,9 @@ static void put_longest(size_t at)
 }
 
 /* A level event: the operand is drawn first, whatever order the compiler takes arguments in. */
-static void put_level(size_t at, uint8_t kind, uint32_t signals)
+static void put_level(size_t at, unsigned kind, uint32_t signals)
 {
-    uint8_t a = (uint8_t)below(signals);
+    uint32_t a = below(signals);
 
     put_record(at, kind, a, below(2));
 }
@@ -123,7 +114,7 @@ static void put_acknowledge(size_t at)
 /* Timer C is pending, so the first acknowledge gives a vector. */
 static void put_vector(size_t at)
 {
-    start[8] = 0x20; /* IPRB */
+    start[MFP_IMAGE_IPRB] = 0x20;
     put_acknowledge(at);
 }
 
@@ -149,7 +140,7 @@ static void put_any(size_t at)
         put_acknowledge(at);
         break;
     case 3:
-        put_record(at, MFP_RAISE, (uint8_t)(9 + below(4)), 0);
+        put_record(at, MFP_RAISE, MFP_CHANNEL_TRANSMIT_ERROR + below(4), 0);
         break;
     case 4:
     case 5:

@@ -11,12 +11,20 @@
 #ifndef MFP_H
 #define MFP_H
 
+#include <stdbool.h>
 #include <stddef.h>
 #include <stdint.h>
 
 #ifdef __cplusplus
 extern "C" {
 #endif
+
+/*
+ * One higher whenever a size, a byte, a number or a call below changes its
+ * meaning or is added. The library is of its header's version; it has no
+ * symbol that tells.
+ */
+#define MFP_VERSION 1
 
 /* Sizes in bytes. MFP_TAPE_MAX is the longest tape: 512 records. */
 #define MFP_IMAGE_BYTES 32
@@ -31,6 +39,37 @@ extern "C" {
 #define MFP_RECORD_MARK_1 0x45
 #define MFP_ANSWER_MARK_0 0x4D
 #define MFP_ANSWER_MARK_1 0x41
+
+/* The four timers and their two inputs. */
+enum mfp_timer { MFP_TIMER_A = 0, MFP_TIMER_B = 1, MFP_TIMER_C = 2, MFP_TIMER_D = 3 };
+enum mfp_input { MFP_TAI = 0, MFP_TBI = 1 };
+
+/*
+ * Where what stands in an image. A host may look at any time; what it writes
+ * there itself, the next call checks. IRQ has no byte: the answer to 0 clocks
+ * tells it, and nothing changes.
+ */
+#define MFP_IMAGE_GPDR 2 /* the stored bits; a read gives levels where DDR is 0 */
+#define MFP_IMAGE_AER 3
+#define MFP_IMAGE_DDR 4
+#define MFP_IMAGE_IERA 5
+#define MFP_IMAGE_IERB 6
+#define MFP_IMAGE_IPRA 7
+#define MFP_IMAGE_IPRB 8
+#define MFP_IMAGE_ISRA 9
+#define MFP_IMAGE_ISRB 10
+#define MFP_IMAGE_IMRA 11
+#define MFP_IMAGE_IMRB 12
+#define MFP_IMAGE_VR 13
+#define MFP_IMAGE_MODE_A 14
+#define MFP_IMAGE_MODE_B 15
+#define MFP_IMAGE_TCDCR 16
+#define MFP_IMAGE_DATA 17     /* + timer: the data value, from which it is reloaded */
+#define MFP_IMAGE_COUNTER 21  /* + timer: the main counter */
+#define MFP_IMAGE_POSITION 25 /* + timer: clocks since its last count pulse */
+#define MFP_IMAGE_OUTPUTS 29  /* bit 0 is timer A, bit 3 is D */
+#define MFP_IMAGE_LEVELS 30   /* bit i is line i */
+#define MFP_IMAGE_INPUTS 31   /* bit 0 is TAI, bit 1 is TBI */
 
 /*
  * A record: the mark, a kind, an operand a of one byte and an operand n of
@@ -50,8 +89,6 @@ enum mfp_kind {
     MFP_ACKNOWLEDGE = 6, /* acknowledge; a is 1 if IEI is asserted, else 0 */
     MFP_RAISE = 7        /* raise serial channel a, 9 to 12 */
 };
-
-enum mfp_input { MFP_TAI = 0, MFP_TBI = 1 };
 
 /* Register selects. The five serial registers are refused. */
 enum mfp_register {
@@ -81,6 +118,26 @@ enum mfp_register {
     MFP_UDR = 23
 };
 
+/* Channels: the low four bits of a vector. Line 5 is channel 7. */
+enum mfp_channel {
+    MFP_CHANNEL_LINE_0 = 0,
+    MFP_CHANNEL_LINE_1 = 1,
+    MFP_CHANNEL_LINE_2 = 2,
+    MFP_CHANNEL_LINE_3 = 3,
+    MFP_CHANNEL_TIMER_D = 4,
+    MFP_CHANNEL_TIMER_C = 5,
+    MFP_CHANNEL_LINE_4 = 6,
+    MFP_CHANNEL_LINE_5 = 7,
+    MFP_CHANNEL_TIMER_B = 8,
+    MFP_CHANNEL_TRANSMIT_ERROR = 9,
+    MFP_CHANNEL_TRANSMIT_EMPTY = 10,
+    MFP_CHANNEL_RECEIVE_ERROR = 11,
+    MFP_CHANNEL_RECEIVE_FULL = 12,
+    MFP_CHANNEL_TIMER_A = 13,
+    MFP_CHANNEL_LINE_6 = 14,
+    MFP_CHANNEL_LINE_7 = 15
+};
+
 /*
  * An answer: the mark, a class, a value (0 if none), IRQ after the event (0
  * or 1), the timer outputs after it (bit 0 is A, bit 3 is D), and how many
@@ -104,7 +161,7 @@ enum mfp_class {
  * Refusals, in the order in which they are checked: 1 to 4, then 5 to 8 for
  * each record in tape order, then 9.
  */
-enum mfp_refusal {
+enum mfp_refusal_number {
     MFP_BAD_IMAGE_LENGTH = 1,  /* the image buffer is not MFP_IMAGE_BYTES long */
     MFP_BAD_IMAGE_MARK = 2,    /* the image does not open with its mark */
     MFP_BAD_IMAGE = 3,         /* the image breaks the image rule */
@@ -116,10 +173,6 @@ enum mfp_refusal {
     MFP_BAD_ANSWER_LENGTH = 9  /* fewer than MFP_ANSWER_BYTES a record */
 };
 
-/* The two parts of what mfp_run returns. */
-#define MFP_REFUSAL(code) ((code) % 256u)
-#define MFP_RECORD_INDEX(code) ((code) / 256u)
-
 /*
  * Run a tape on a device.
  *
@@ -128,8 +181,8 @@ enum mfp_refusal {
  * answers  room for MFP_ANSWER_BYTES a record; more room is left as it is
  *
  * Returns 0, or 256 * index of the bad record + number of the refusal; the
- * index is 0 for refusals 1 to 4 and 9. MFP_REFUSAL and MFP_RECORD_INDEX take
- * the two apart.
+ * index is 0 for refusals 1 to 4 and 9. mfp_refusal and mfp_refused_record
+ * take the two apart.
  *
  * Success writes the image and the first MFP_ANSWER_BYTES * records bytes of
  * the answers, and nothing else. A refusal leaves image and answers as they
@@ -137,7 +190,7 @@ enum mfp_refusal {
  *
  * The caller sees to it that each buffer is valid for its length and that no
  * two of them overlap; this cannot be checked here. A buffer of length 0 is
- * not touched, but its pointer must not be NULL.
+ * not touched, but its pointer must not be NULL: mfp_call, below, sees to it.
  */
 uint32_t mfp_run(uint8_t *image, size_t image_len, const uint8_t *tape, size_t tape_len,
                  uint8_t *answers, size_t answers_len);
@@ -154,5 +207,172 @@ uint32_t mfp_fresh(uint8_t *image, size_t image_len);
 #ifdef __cplusplus
 }
 #endif
+
+/*
+ * Helpers, compiled into the host. Of the library they need mfp_run alone, and
+ * that in mfp_call.
+ */
+
+/*
+ * mfp_run on an image of MFP_IMAGE_BYTES, for a host that may have nothing to
+ * lend: tape and answers may be NULL where their length is 0. NULL with
+ * another length is the host's error, as every pointer is that is not valid
+ * for its length.
+ */
+static inline uint32_t mfp_call(uint8_t *image, const uint8_t *tape, size_t tape_len,
+                                uint8_t *answers, size_t answers_len)
+{
+    uint8_t nothing = 0;
+
+    return mfp_run(image, MFP_IMAGE_BYTES, tape_len != 0 ? tape : &nothing, tape_len,
+                   answers_len != 0 ? answers : &nothing, answers_len);
+}
+
+/* A number as a byte; one that has no byte as 255, which no kind takes. */
+static inline uint8_t mfp_byte(unsigned number)
+{
+    return number < 255u ? number & 255u : 255u;
+}
+
+/*
+ * Make a record: each of these writes MFP_RECORD_BYTES and returns where the
+ * next record goes, so that a tape can be put together in a row. They check
+ * nothing. A number out of range stays out of range, and mfp_run refuses it; a
+ * truth value is never out of range.
+ */
+static inline uint8_t *mfp_put_record(uint8_t *record, unsigned kind, unsigned a, uint32_t n)
+{
+    int at;
+
+    record[0] = MFP_RECORD_MARK_0;
+    record[1] = MFP_RECORD_MARK_1;
+    record[MFP_RECORD_KIND] = mfp_byte(kind);
+    record[MFP_RECORD_A] = mfp_byte(a);
+    for (at = MFP_RECORD_BYTES - 1; at >= MFP_RECORD_N; at--) {
+        record[at] = n & 255u;
+        n >>= 8;
+    }
+    return record + MFP_RECORD_BYTES;
+}
+
+static inline uint8_t *mfp_put_reset(uint8_t *record)
+{
+    return mfp_put_record(record, MFP_RESET, 0, 0);
+}
+
+static inline uint8_t *mfp_put_read(uint8_t *record, unsigned rs)
+{
+    return mfp_put_record(record, MFP_READ, rs, 0);
+}
+
+static inline uint8_t *mfp_put_write(uint8_t *record, unsigned rs, unsigned value)
+{
+    return mfp_put_record(record, MFP_WRITE, rs, value);
+}
+
+static inline uint8_t *mfp_put_line(uint8_t *record, unsigned line, bool level)
+{
+    return mfp_put_record(record, MFP_LINE, line, level);
+}
+
+static inline uint8_t *mfp_put_input(uint8_t *record, unsigned input, bool level)
+{
+    return mfp_put_record(record, MFP_INPUT, input, level);
+}
+
+static inline uint8_t *mfp_put_clocks(uint8_t *record, uint32_t n)
+{
+    return mfp_put_record(record, MFP_CLOCKS, 0, n);
+}
+
+/* iei: whether IEI is asserted. */
+static inline uint8_t *mfp_put_acknowledge(uint8_t *record, bool iei)
+{
+    return mfp_put_record(record, MFP_ACKNOWLEDGE, iei, 0);
+}
+
+static inline uint8_t *mfp_put_raise(uint8_t *record, unsigned channel)
+{
+    return mfp_put_record(record, MFP_RAISE, channel, 0);
+}
+
+/* Read an answer, MFP_ANSWER_BYTES that an accepted call has written. */
+
+/* One of enum mfp_class. */
+static inline unsigned mfp_answer_class(const uint8_t *answer)
+{
+    return answer[MFP_ANSWER_CLASS];
+}
+
+/* What was read, for MFP_DATA; the vector, for MFP_VECTOR; else 0. */
+static inline unsigned mfp_answer_value(const uint8_t *answer)
+{
+    return answer[MFP_ANSWER_VALUE];
+}
+
+/* Whether IRQ is asserted after the event. */
+static inline bool mfp_answer_irq(const uint8_t *answer)
+{
+    return answer[MFP_ANSWER_IRQ] != 0;
+}
+
+/* The timer outputs after the event: bit 0 is A, bit 3 is D. */
+static inline unsigned mfp_answer_outputs(const uint8_t *answer)
+{
+    return answer[MFP_ANSWER_OUTPUTS];
+}
+
+/* How many timeouts of a timer, 0 to 3, the event made. */
+static inline uint32_t mfp_answer_timeouts(const uint8_t *answer, unsigned timer)
+{
+    const uint8_t *count = answer + MFP_ANSWER_TIMEOUTS + 4 * timer;
+    uint32_t n = 0;
+    int i;
+
+    for (i = 0; i < 4; i++)
+        n = n << 8 | count[i];
+    return n;
+}
+
+/* Take a code apart: the number of the refusal, 0 if there is none. */
+static inline unsigned mfp_refusal(uint32_t code)
+{
+    return code & 255u;
+}
+
+/* And the index of the record that it is about, 0 for refusals 1 to 4 and 9. */
+static inline uint32_t mfp_refused_record(uint32_t code)
+{
+    return code >> 8;
+}
+
+/* A refusal in words, by its number. It is a constant; nobody frees it. */
+static inline const char *mfp_refusal_text(unsigned number)
+{
+    switch (number) {
+    case 0:
+        return "not refused";
+    case MFP_BAD_IMAGE_LENGTH:
+        return "image buffer is not 32 bytes";
+    case MFP_BAD_IMAGE_MARK:
+        return "image mark wrong";
+    case MFP_BAD_IMAGE:
+        return "image breaks the image rule";
+    case MFP_BAD_TAPE_LENGTH:
+        return "tape length not a multiple of 8, or above 4,096";
+    case MFP_BAD_RECORD_MARK:
+        return "record mark wrong";
+    case MFP_BAD_KIND:
+        return "kind above 7";
+    case MFP_BAD_OPERAND:
+        return "operand out of range";
+    case MFP_SERIAL_REGISTER:
+        return "read or write with rs 19 to 23";
+    case MFP_BAD_ANSWER_LENGTH:
+        return "answer buffer shorter than 22 bytes a record";
+    default:
+        return "no refusal has this number";
+    }
+}
 
 #endif

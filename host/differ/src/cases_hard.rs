@@ -1,7 +1,7 @@
 //! Where emulations of this part are known to go wrong: one named case each,
 //! with lines written by hand from the paper's rules.
 
-use crate::cases_bench::Case;
+use crate::cases_paper::Case;
 use crate::rig::Rig;
 use mfp_host::reference::image::at;
 use mfp_host::reference::layout::{FIRST_SERIAL, IMAGE_BYTES, REGISTERS};

@@ -1,7 +1,7 @@
 //! The nine refusals: every boundary of every condition and the order between
 //! them, with the expected number worked out here from the paper's words.
 
-use crate::lent::{Call, Lender};
+use crate::call::{Call, Lender};
 use crate::shrink;
 use mfp_host::reference::image::at;
 use mfp_host::reference::tape::raw_record;

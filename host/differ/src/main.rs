@@ -8,19 +8,19 @@
 //! The last line is `N passed, M failed`; any failure is a non-zero status.
 #![deny(warnings)]
 
-mod cases_bench;
+mod call;
 mod cases_hard;
+mod cases_paper;
 mod cases_refusals;
 mod ffi;
 mod guard;
-mod lent;
 mod program;
 mod random;
 mod rig;
 mod shrink;
 
+use call::Lender;
 use guard::Side;
-use lent::Lender;
 use random::Reached;
 use std::process::ExitCode;
 
@@ -103,9 +103,9 @@ fn cases(tally: &mut Tally) {
         is_noticed("right")
     });
     tally.case("the sample tape and its ten lines", || {
-        cases_bench::sample(&mut lender)
+        cases_paper::sample(&mut lender)
     });
-    for (name, case) in cases_bench::CASES.iter().chain(cases_hard::CASES) {
+    for (name, case) in cases_paper::CASES.iter().chain(cases_hard::CASES) {
         tally.case(name, || {
             let mut rig = rig::Rig::new(&mut lender);
             case(&mut rig);

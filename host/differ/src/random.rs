@@ -2,7 +2,7 @@
 //! which something happens; each is compared, accepted ones with the plain C
 //! as well, and their clock events are cut and joined.
 
-use crate::lent::{Call, Lender, Outcome};
+use crate::call::{Call, Lender, Outcome};
 use crate::shrink;
 use mfp_host::reference::image::at;
 use mfp_host::reference::layout::{

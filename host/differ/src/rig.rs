@@ -2,7 +2,7 @@
 //! on the library and on the second implementation, with the lines that the
 //! paper's rules give them, written by hand.
 
-use crate::lent::{Call, Lender};
+use crate::call::{Call, Lender};
 use crate::shrink;
 use mfp_host::reference::tape::encode_record;
 use mfp_host::reference::Device;

@@ -1,6 +1,6 @@
 //! From a call that goes wrong to a small one that still does, and its report.
 
-use crate::lent::{Call, Lender, Outcome};
+use crate::call::{Call, Lender, Outcome};
 use mfp_host::reference::layout::{record_at, ANSWER_BYTES, RECORD_BYTES};
 use mfp_host::{reference, replay, text};
 

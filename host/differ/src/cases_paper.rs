@@ -1,7 +1,7 @@
 //! The paper's bench examples, the slips it wants ruled out, its sample tape,
 //! and the tables it fixes, each as a named case with lines written by hand.
 
-use crate::lent::{Call, Lender};
+use crate::call::{Call, Lender};
 use crate::rig::Rig;
 use mfp_host::reference::image::at;
 use mfp_host::reference::Device;

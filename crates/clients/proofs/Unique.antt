@@ -63,9 +63,9 @@ use Rattle.events.proofs.is_in_range.Reads as events-is-in-range
 use Rattle.events.proofs.class_of.Reads as events-class-of
 use Rattle.events.proofs.value_of.Reads as events-value-of
 use Rattle.events.proofs.number_of.Reads as events-number-of
-use Rattle.record.proofs.read_select.Reads as record-read-select
-use Rattle.record.proofs.write_select.Reads as record-write-select
-use Rattle.record.proofs.known.Reads as record-known
+use Rattle.selects.proofs.read_select.Reads as selects-read-select
+use Rattle.selects.proofs.write_select.Reads as selects-write-select
+use Rattle.selects.proofs.known.Reads as selects-known
 use Rattle.record.proofs.input_of.Reads as record-input-of
 use Rattle.record.proofs.Raw.verdict.Reads as record-Raw-verdict
 use Rattle.words.proofs.middle.Reads as words-middle
@@ -81,6 +81,9 @@ use Rattle.device.proofs.Device.keeps_rule.Reads as device-Device-keeps-rule
 use Rattle.step.proofs.step.Reads as step-step
 use Rattle.step.proofs.write.Reads as step-write
 use Rattle.step.proofs.acknowledge.Reads as step-acknowledge
+use Rattle.layout.proofs.lines_from.Reads as layout-lines-from
+use Rattle.layout.proofs.interrupts_from.Reads as layout-interrupts-from
+use Rattle.layout.proofs.timers_from.Reads as layout-timers-from
 use Rattle.image.proofs.load.Reads as image-load
 use Rattle.image.proofs.store.Reads as image-store
 use Rattle.image.proofs.save.Reads as image-save
@@ -293,16 +296,17 @@ events-value-of-fixed κs a x y s t p q = one p q
 events-number-of-fixed : FixesResult events-number-of.Learnt
 events-number-of-fixed κs a x y s t p q = one p q
 
+-- ---- selects
+selects-read-select-fixed : FixesResult selects-read-select.Learnt
+selects-read-select-fixed κs a x y s t p q = one p q
+
+selects-write-select-fixed : FixesResult selects-write-select.Learnt
+selects-write-select-fixed κs a x y s t p q = one p q
+
+selects-known-fixed : FixesResult selects-known.Learnt
+selects-known-fixed κs a x y s t p q = one p q
+
 -- ---- record
-record-read-select-fixed : FixesResult record-read-select.Learnt
-record-read-select-fixed κs a x y s t p q = one p q
-
-record-write-select-fixed : FixesResult record-write-select.Learnt
-record-write-select-fixed κs a x y s t p q = one p q
-
-record-known-fixed : FixesResult record-known.Learnt
-record-known-fixed κs a x y s t p q = one p q
-
 record-input-of-fixed : FixesResult record-input-of.Learnt
 record-input-of-fixed κs a x y s t p q = one p q
 
@@ -357,6 +361,16 @@ step-write-fixed κs a x y s t p q = one p q
 
 step-acknowledge-fixed : FixesResult step-acknowledge.Learnt
 step-acknowledge-fixed κs a x y s t p q = one p q
+
+-- ---- layout
+layout-lines-from-fixed : FixesResult layout-lines-from.Learnt
+layout-lines-from-fixed κs a x y s t p q = one p q
+
+layout-interrupts-from-fixed : FixesResult layout-interrupts-from.Learnt
+layout-interrupts-from-fixed κs a x y s t p q = one p q
+
+layout-timers-from-fixed : FixesResult layout-timers-from.Learnt
+layout-timers-from-fixed κs a x y s t p q = one p q
 
 -- ---- image
 image-load-fixed : FixesResult image-load.Learnt

@@ -16,11 +16,12 @@ use Rattle.events.specs.declared.Refusal.the-variants.{RecordMark, Kind, Operan
 use Rattle.events.specs.Ranges.{inRange}
 use Rattle.bits.specs.Bytes.{byte}
 use Rattle.bits.proofs.Bits.{joined}
-use Rattle.record.specs.declared.Selected.{Selected}
-use Rattle.record.specs.declared.Selected.the-variants.{Known, SerialPort}
+use Rattle.selects.specs.declared.Selected.{Selected}
+use Rattle.selects.specs.declared.Selected.the-variants.{Known, SerialPort}
 use Rattle.record.specs.declared.Decoded.{Decoded}
 use Rattle.record.specs.declared.Decoded.the-variants.{Valid, Invalid}
-use Rattle.record.specs.Records.{recordBytes, registers, registerOf, reading, writing, inputOf, ifInRange, eventOf, readSelect, writeSelect, meant}
+use Rattle.selects.specs.Selects.{registers, registerOf, readSelect, writeSelect}
+use Rattle.record.specs.Records.{recordBytes, reading, writing, inputOf, ifInRange, eventOf, meant}
 use Rattle.tape.specs.Tapes.{decoded}
 use Rattle.record.proofs.Verdicts.{Holds}
 use Rattle.demands.specs.Rule.{WritesByte}

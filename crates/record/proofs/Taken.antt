@@ -14,11 +14,13 @@ use Rattle.events.specs.declared.Event.the-variants.{Read, Write, Level, Input,
 use Rattle.events.specs.declared.Refusal.the-variants.{RecordMark, Operand}
 use Rattle.events.specs.Ranges.{isSerialChannel}
 use Rattle.record.specs.declared.Raw.{Raw}
-use Rattle.record.specs.declared.Selected.{Selected}
-use Rattle.record.specs.declared.Selected.the-variants.{Known, SerialPort}
+use Rattle.selects.specs.declared.Selected.{Selected}
+use Rattle.selects.specs.declared.Selected.the-variants.{Known, SerialPort}
 use Rattle.record.specs.declared.Decoded.the-variants.{Valid}
-use Rattle.record.specs.Records.{recordMark0, recordMark1, readSelect, writeSelect, reading, writing, inputOf, eventOf, operand, meant}
-use Rattle.record.specs.Taken.{knownOf, takenAs, taken}
+use Rattle.selects.specs.Selects.{readSelect, writeSelect}
+use Rattle.record.specs.Records.{recordMark0, recordMark1, reading, writing, inputOf, eventOf, operand, meant}
+use Rattle.selects.specs.Selects.{knownOf}
+use Rattle.record.specs.Taken.{takenAs, taken}
 use Rattle.record.proofs.Verdicts.{no-event, tested}
 
 one : {x e : Event} → Valid x ≡ Valid e → x ≡ e

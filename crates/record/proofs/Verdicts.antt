@@ -1,15 +1,14 @@
 -- What the check finds of one record, and what a record let pass says of its event. Assumes nothing.
-use Prim.Native.Nat.{ℕ, suc, _≤_}
+use Prim.Native.Nat.{ℕ, _≤_}
 use mathlib.Core.Path.{_≡_, refl, sym}
 use mathlib.Core.Bool.{Bool, true, false, cond}
 use native.Mathlib.Omega.{arith}
-use lib.Arith.{lt-of-le-ne}
 use lib.ListN.{List·getD-eq-default}
 use Rattle.events.specs.declared.Event.{Event}
 use Rattle.events.specs.declared.Refusal.{Refusal}
 use Rattle.events.specs.declared.Refusal.the-variants.{Kind, Operand}
-use Rattle.record.specs.declared.Selected.{Selected}
-use Rattle.record.specs.declared.Selected.the-variants.{Known, SerialPort}
+use Rattle.selects.specs.declared.Selected.{Selected}
+use Rattle.selects.specs.declared.Selected.the-variants.{Known, SerialPort}
 use Rattle.record.specs.declared.Decoded.{Decoded}
 use Rattle.record.specs.declared.Decoded.the-variants.{Valid, Invalid}
 use Rattle.record.specs.declared.Verdict.{Verdict}
@@ -57,7 +56,3 @@ no-event p = let z : _≡_ {A = ℕ} 0 1 = cc in absurd (omega arith)
 pub tested : (t : Bool) (r : Refusal) {d : Decoded} {e : Event} → cond t d (Invalid r) ≡ Valid e → (t ≡ true) × (d ≡ Valid e)
 tested true r p = (refl, p)
 tested false r p = no-event p
-
--- ---- a number that is at least k and not k, as the rest of a `match` has it
-pub past : {n k : ℕ} → k ≤ n → (n ≡ k → ⊥) → suc k ≤ n
-past h f = lt-of-le-ne h (λ e. f (sym e))

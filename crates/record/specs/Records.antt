@@ -5,21 +5,17 @@ use mathlib.Core.List.{List, [], _∷_}
 use lib.Dec.{leb, eqb}
 use lib.ListN.{getD}
 use Rattle.bits.specs.Bytes.{number}
-use Rattle.channels.specs.declared.Half.the-variants.{A, B}
-use Rattle.interrupts.specs.declared.InterruptRegister.the-variants.{Ier, Ipr, Isr, Imr, Vr}
 use Rattle.channels.specs.Channels.{line, channel}
-use Rattle.timers.specs.declared.TimerRegister.the-variants.{Tacr, Tbcr, Tcdcr, Tadr, Tbdr, Tcdr, Tddr}
-use Rattle.lines.specs.declared.LineRegister.the-variants.{Gpdr, Aer, Ddr}
 use Rattle.lines.specs.declared.TimerInput.{TimerInput}
 use Rattle.lines.specs.declared.TimerInput.the-variants.{Tai, Tbi}
 use Rattle.lines.specs.Registers.{isLine}
-use Rattle.events.specs.declared.Register.the-variants.{OfLines, OfInterrupts, OfTimers}
 use Rattle.events.specs.declared.Event.the-variants.{Reset, Read, Write, Level, Input, Clocks, Acknowledge, Raise}
 use Rattle.events.specs.declared.Refusal.the-variants.{RecordMark, Kind, Operand, Serial}
 use Rattle.events.specs.Ranges.{isSerialChannel}
+use Rattle.selects.specs.Selects.{readSelect, writeSelect}
 use Rattle.record.specs.declared.Raw.{Raw}
-use Rattle.record.specs.declared.Selected.{Selected}
-use Rattle.record.specs.declared.Selected.the-variants.{Known, SerialPort}
+use Rattle.selects.specs.declared.Selected.{Selected}
+use Rattle.selects.specs.declared.Selected.the-variants.{Known, SerialPort}
 use Rattle.record.specs.declared.Decoded.{Decoded}
 use Rattle.record.specs.declared.Decoded.the-variants.{Valid, Invalid}
 
@@ -33,42 +29,7 @@ recordMark0 = 0x4D
 abbrev pub recordMark1 : ℕ
 recordMark1 = 0x45
 
--- ---- register selects
--- "0 GPDR, 1 AER, 2 DDR, 3/4 IERA/IERB, 5/6 IPRA/IPRB, 7/8 ISRA/ISRB, 9/10 IMRA/IMRB, 11 VR, 12 TACR, 13 TBCR, 14 TCDCR, 15 to 18 TADR to TDDR"
-abbrev pub registers : List Selected
-registers =
-    Known (OfLines Gpdr)
-    ∷ Known (OfLines Aer)
-    ∷ Known (OfLines Ddr)
-    ∷ Known (OfInterrupts (Ier A))
-    ∷ Known (OfInterrupts (Ier B))
-    ∷ Known (OfInterrupts (Ipr A))
-    ∷ Known (OfInterrupts (Ipr B))
-    ∷ Known (OfInterrupts (Isr A))
-    ∷ Known (OfInterrupts (Isr B))
-    ∷ Known (OfInterrupts (Imr A))
-    ∷ Known (OfInterrupts (Imr B))
-    ∷ Known (OfInterrupts Vr)
-    ∷ Known (OfTimers Tacr)
-    ∷ Known (OfTimers Tbcr)
-    ∷ Known (OfTimers Tcdcr)
-    ∷ Known (OfTimers Tadr)
-    ∷ Known (OfTimers Tbdr)
-    ∷ Known (OfTimers Tcdr)
-    ∷ Known (OfTimers Tddr)
-    ∷ []
-
--- the register of a select; "19 SCR, 20 UCR, 21 RSR, 22 TSR, 23 UDR" are the serial port's
-unfoldable pub registerOf : ℕ → Selected
-registerOf rs = getD registers rs SerialPort
-
--- what a read selects, and what a write does: the same, until the serial port's registers come in one by one
-unfoldable pub readSelect : ℕ → Selected
-readSelect rs = registerOf rs
-
-unfoldable pub writeSelect : ℕ → Selected
-writeSelect rs = registerOf rs
-
+-- ---- one kind after the other
 -- 8: "read or write with rs 19 to 23"
 abbrev pub reading : Selected → Decoded
 reading (Known r) = Valid (Read r)

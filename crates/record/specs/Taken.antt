@@ -3,20 +3,11 @@ use mathlib.Core.List.{List, [], _∷_}
 use lib.Dec.{eqb}
 use lib.ListN.{getD}
 use Rattle.channels.specs.Channels.{line, channel}
-use Rattle.lines.specs.declared.LineRegister.the-variants.{Gpdr}
-use Rattle.events.specs.declared.Register.{Register}
-use Rattle.events.specs.declared.Register.the-variants.{OfLines}
 use Rattle.events.specs.declared.Event.{Event}
 use Rattle.events.specs.declared.Event.the-variants.{Reset, Read, Write, Level, Input, Clocks, Acknowledge, Raise}
 use Rattle.record.specs.declared.Raw.{Raw}
-use Rattle.record.specs.declared.Selected.{Selected}
-use Rattle.record.specs.declared.Selected.the-variants.{Known, SerialPort}
-use Rattle.record.specs.Records.{readSelect, writeSelect, inputOf, operand}
-
--- the register that is known; of the serial port, which the check refuses, the first
-abbrev pub knownOf : Selected → Register
-knownOf (Known r) = r
-knownOf SerialPort = OfLines Gpdr
+use Rattle.selects.specs.Selects.{readSelect, writeSelect, knownOf}
+use Rattle.record.specs.Records.{inputOf, operand}
 
 -- by kinds 0 to 6, and any other as 7
 abbrev pub takenAs : Raw → List Event

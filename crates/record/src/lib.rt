@@ -1,20 +1,13 @@
 // One record of a tape, by value: what the check finds of it, and the event that the run takes of it.
 // The rules stand in specs/Records.antt, what check and run keep of them in Verdicts and Taken. Every
 // function is total.
-use channels::Channel;
-use channels::Half;
-use channels::Line;
 use events::Event;
 use events::Refusal;
-use events::Register;
-use interrupts::InterruptRegister;
-use lines::LineRegister;
 use lines::TimerInput;
-use timers::TimerRegister;
+use selects::Selected;
 ghost use mathlib.Core.Path.{_≡_};
 ghost use mathlib.Core.Bool.{cond};
-ghost use Rattle.record.specs.Records.{registerOf, readSelect, writeSelect, reading, inputOf, eventOf, meant};
-ghost use Rattle.record.specs.Taken.{knownOf};
+ghost use Rattle.record.specs.Records.{reading, inputOf, eventOf, meant};
 ghost use Rattle.record.specs.Verdicts.{verdictOf};
 
 pub const RECORD_BYTES: usize = 8;
@@ -35,12 +28,6 @@ pub struct Raw {
     pub n0: u8,
 }
 
-// What a register select names.
-pub enum Selected {
-    Known(Register),
-    SerialPort,
-}
-
 // What a record means.
 pub enum Decoded {
     Valid(Event),
@@ -51,59 +38,6 @@ pub enum Decoded {
 pub enum Verdict {
     Sound,
     Wrong(Refusal),
-}
-
-// ---- register selects
-
-fn register_of(rs: u8) -> Selected
-    ensures { λ r. ⌜ r ≡ registerOf rs ⌝ }
-{
-    match rs {
-        0 => Selected::Known(Register::OfLines(LineRegister::Gpdr)),
-        1 => Selected::Known(Register::OfLines(LineRegister::Aer)),
-        2 => Selected::Known(Register::OfLines(LineRegister::Ddr)),
-        3 => Selected::Known(Register::OfInterrupts(InterruptRegister::Ier(Half::A))),
-        4 => Selected::Known(Register::OfInterrupts(InterruptRegister::Ier(Half::B))),
-        5 => Selected::Known(Register::OfInterrupts(InterruptRegister::Ipr(Half::A))),
-        6 => Selected::Known(Register::OfInterrupts(InterruptRegister::Ipr(Half::B))),
-        7 => Selected::Known(Register::OfInterrupts(InterruptRegister::Isr(Half::A))),
-        8 => Selected::Known(Register::OfInterrupts(InterruptRegister::Isr(Half::B))),
-        9 => Selected::Known(Register::OfInterrupts(InterruptRegister::Imr(Half::A))),
-        10 => Selected::Known(Register::OfInterrupts(InterruptRegister::Imr(Half::B))),
-        11 => Selected::Known(Register::OfInterrupts(InterruptRegister::Vr)),
-        12 => Selected::Known(Register::OfTimers(TimerRegister::Tacr)),
-        13 => Selected::Known(Register::OfTimers(TimerRegister::Tbcr)),
-        14 => Selected::Known(Register::OfTimers(TimerRegister::Tcdcr)),
-        15 => Selected::Known(Register::OfTimers(TimerRegister::Tadr)),
-        16 => Selected::Known(Register::OfTimers(TimerRegister::Tbdr)),
-        17 => Selected::Known(Register::OfTimers(TimerRegister::Tcdr)),
-        18 => Selected::Known(Register::OfTimers(TimerRegister::Tddr)),
-        _ => Selected::SerialPort,
-    }
-}
-
-// What a read selects.
-pub fn read_select(rs: u8) -> Selected
-    ensures { λ r. ⌜ r ≡ readSelect rs ⌝ }
-{
-    register_of(rs)
-}
-
-// What a write selects.
-pub fn write_select(rs: u8) -> Selected
-    ensures { λ r. ⌜ r ≡ writeSelect rs ⌝ }
-{
-    register_of(rs)
-}
-
-// The register of a select that the check has let pass.
-pub fn known(s: Selected) -> Register
-    ensures { λ r. ⌜ r ≡ knownOf s ⌝ }
-{
-    match s {
-        Selected::Known(r) => r,
-        Selected::SerialPort => Register::OfLines(LineRegister::Gpdr),
-    }
 }
 
 // The input of number a, 0 or 1.
@@ -144,8 +78,14 @@ fn verdict_of(kind: u8, a: u8, n: u32) -> Verdict
 {
     match kind {
         0 => in_range(bits::both(a == 0, n == 0), Verdict::Sound),
-        1 => in_range(bits::both(a <= 23, n == 0), selects(read_select(a))),
-        2 => in_range(bits::both(a <= 23, n <= 255), selects(write_select(a))),
+        1 => in_range(
+            bits::both(a <= 23, n == 0),
+            selects(selects::read_select(a)),
+        ),
+        2 => in_range(
+            bits::both(a <= 23, n <= 255),
+            selects(selects::write_select(a)),
+        ),
         3 => in_range(bits::both(events::is_line(a), n <= 1), Verdict::Sound),
         4 => in_range(bits::both(a <= 1, n <= 1), Verdict::Sound),
         5 => in_range(a == 0, Verdict::Sound),

@@ -50,8 +50,8 @@ pub fn event_at(tape: &[u8], at: usize) -> Event
     let a = tape[at + 3];
     match tape[at + 2] {
         0 => Event::Reset,
-        1 => Event::Read(record::known(record::read_select(a))),
-        2 => Event::Write(record::known(record::write_select(a)), tape[at + 7]),
+        1 => Event::Read(selects::known(selects::read_select(a))),
+        2 => Event::Write(selects::known(selects::write_select(a)), tape[at + 7]),
         3 => Event::Level(Line(a), tape[at + 7] == 1),
         4 => Event::Input(record::input_of(a), tape[at + 7] == 1),
         5 => Event::Clocks(bits::number_from(

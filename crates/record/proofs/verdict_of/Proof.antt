@@ -1,11 +1,13 @@
 -- `record::verdict_of` meets its contract, kind by kind. Assumes nothing.
 use mathlib.Core.Path.{refl, sym, ap, _∙_}
 use borrow.Author.Needs.{needs}
-use Rattle.record.proofs.Verdicts.{ranged, either-way, above-seven, past}
+use Rattle.record.proofs.Verdicts.{ranged, either-way, above-seven}
+use Rattle.selects.proofs.Numbers.{past}
 use Rattle.record.specs.Verdicts.{verdictOf}
-use Rattle.record.specs.Records.{readSelect, writeSelect, reading, writing, inputOf, eventOf}
+use Rattle.selects.specs.Selects.{readSelect, writeSelect}
+use Rattle.record.specs.Records.{reading, writing, inputOf, eventOf}
 use Rattle.record.specs.declared.Decoded.the-variants.{Valid}
-use Rattle.record.specs.declared.Selected.{Selected}
+use Rattle.selects.specs.declared.Selected.{Selected}
 use Rattle.events.specs.declared.Event.the-variants.{Reset, Level, Input, Clocks, Acknowledge, Raise}
 use Rattle.events.specs.Ranges.{isSerialChannel}
 use Rattle.lines.specs.Registers.{isLine}

@@ -9,8 +9,9 @@ use Rattle.bits.specs.Bytes.{byte}
 use Rattle.channels.specs.Channels.{channel}
 use Rattle.events.specs.declared.Event.{Event}
 use Rattle.events.specs.declared.Event.the-variants.{Read, Write, Input, Clocks, Raise}
-use Rattle.record.specs.Taken.{knownOf, takenAs, taken}
-use Rattle.record.proofs.Verdicts.{past}
+use Rattle.selects.specs.Selects.{knownOf}
+use Rattle.record.specs.Taken.{takenAs, taken}
+use Rattle.selects.proofs.Numbers.{past}
 use Rattle.tape.specs.Tapes.{rawAt}
 use Rattle.tape.proofs.event_at.Statement.{statement}
 use Rattle.tape.proofs.event_at.Tie as tie

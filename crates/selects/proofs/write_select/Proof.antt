@@ -1,8 +1,8 @@
--- `record::write_select` meets its contract. Assumes nothing.
+-- `selects::write_select` meets its contract. Assumes nothing.
 use borrow.Author.Needs.{needs}
-use Rattle.record.specs.Records.{writeSelect}
-use Rattle.record.proofs.write_select.Statement.{statement}
-use Rattle.record.proofs.write_select.Tie as tie
+use Rattle.selects.specs.Selects.{writeSelect}
+use Rattle.selects.proofs.write_select.Statement.{statement}
+use Rattle.selects.proofs.write_select.Tie as tie
 
 returns : tie.Need-returns
 unfolding writeSelect

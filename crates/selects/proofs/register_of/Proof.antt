@@ -1,12 +1,12 @@
--- `record::register_of` meets its contract: the table is the definition's. Assumes nothing.
+-- `selects::register_of` meets its contract: the table is the definition's. Assumes nothing.
 use mathlib.Core.Path.{sym, ap}
 use lib.ListN.{List·getD-eq-default}
-use Rattle.record.specs.declared.Selected.the-variants.{SerialPort}
-use Rattle.record.specs.Records.{registers, registerOf}
+use Rattle.selects.specs.declared.Selected.the-variants.{SerialPort}
+use Rattle.selects.specs.Selects.{registers, registerOf}
 use Prim.Native.Nat.{zero-le}
-use Rattle.record.proofs.Verdicts.{past}
-use Rattle.record.proofs.register_of.Statement.{statement}
-use Rattle.record.proofs.register_of.Tie as tie
+use Rattle.selects.proofs.Numbers.{past}
+use Rattle.selects.proofs.register_of.Statement.{statement}
+use Rattle.selects.proofs.register_of.Tie as tie
 
 returns : tie.Need-returns
 unfolding registerOf

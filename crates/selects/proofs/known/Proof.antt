@@ -1,9 +1,9 @@
--- `record::known` meets its contract. Assumes nothing.
+-- `selects::known` meets its contract. Assumes nothing.
 use mathlib.Core.Path.{sym, ap}
 use borrow.Author.Needs.{needs}
-use Rattle.record.specs.Taken.{knownOf}
-use Rattle.record.proofs.known.Statement.{statement}
-use Rattle.record.proofs.known.Tie as tie
+use Rattle.selects.specs.Selects.{knownOf}
+use Rattle.selects.proofs.known.Statement.{statement}
+use Rattle.selects.proofs.known.Tie as tie
 
 returns-2 : tie.Need-returns-2
 returns-2 c = sym (ap knownOf (c .enum-told .given .1))

@@ -1,8 +1,8 @@
--- `record::read_select` meets its contract. Assumes nothing.
+-- `selects::read_select` meets its contract. Assumes nothing.
 use borrow.Author.Needs.{needs}
-use Rattle.record.specs.Records.{readSelect}
-use Rattle.record.proofs.read_select.Statement.{statement}
-use Rattle.record.proofs.read_select.Tie as tie
+use Rattle.selects.specs.Selects.{readSelect}
+use Rattle.selects.proofs.read_select.Statement.{statement}
+use Rattle.selects.proofs.read_select.Tie as tie
 
 returns : tie.Need-returns
 unfolding readSelect

@@ -1,0 +1,2 @@
+-- What the proofs of matches on numbers share.
+pub mod Numbers

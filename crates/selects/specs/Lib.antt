@@ -1,0 +1,2 @@
+-- The register of each select.
+pub mod Selects

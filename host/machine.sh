@@ -12,6 +12,15 @@ run() {
     ${emulator:+"$emulator"} "$@"
 }
 
+# python WORD..: Python for x86-64, which can load what links the library.
+python() {
+    if [ -z "$emulator" ]; then
+        python3 "$@"
+    else
+        "$emulator" -L "$apart" "$apart/usr/bin/python3.11" "$@"
+    fi
+}
+
 # compile COMPILER WORD..: calls gcc, g++ or clang so that it makes what is for x86-64.
 compile() {
     case $emulator:$1 in
@@ -27,6 +36,19 @@ need() {
     command -v "$1" > /dev/null || [ -e "$1" ] || missing+=("${@:2}")
 }
 
+# need_python: elsewhere than on x86-64 Debian installs Python for x86-64 only in place of the machine's own.
+# It is unpacked into a folder of its own instead, in which the emulator looks first.
+apart=${XDG_CACHE_HOME:-~/.cache}/mfp-python-amd64
+missing_apart=()
+need_python() {
+    if [ -z "$emulator" ]; then
+        need python3 python3
+    elif [ ! -d "$apart" ]; then
+        missing_apart=(python3.11-minimal:amd64 libpython3.11-minimal:amd64 libpython3.11-stdlib:amd64
+            libexpat1:amd64 libffi8:amd64 zlib1g:amd64)
+    fi
+}
+
 # need_cross: what C for x86-64 takes on another machine. clang takes its linker and libc from gcc's.
 need_cross() {
     if [ -n "$emulator" ]; then
@@ -39,10 +61,21 @@ need_cross() {
 # install_missing: installs at one go what was needed and is missing. What is for x86-64 comes as packages of
 # Debian's architecture amd64, which is added.
 install_missing() {
-    if [ "${#missing[@]}" -gt 0 ]; then
-        echo "missing, so installed: ${missing[*]}" >&2
+    local all=("${missing[@]}" "${missing_apart[@]}")
+    if [ "${#all[@]}" -gt 0 ]; then
+        echo "missing, so installed: ${all[*]}" >&2
         { [ -z "$emulator" ] || dpkg --add-architecture amd64; } &&
             apt-get update -qq &&
-            DEBIAN_FRONTEND=noninteractive apt-get install -qq -y --no-install-recommends "${missing[@]}" > /dev/null
+            DEBIAN_FRONTEND=noninteractive apt-get install -qq -y --no-install-recommends "${missing[@]}" > /dev/null &&
+            { [ "${#missing_apart[@]}" -eq 0 ] || unpack_apart; }
     fi
+}
+
+# unpack_apart: the folder is there once all of it is.
+unpack_apart() {
+    local part debs deb
+    mkdir -p "$(dirname "$apart")" && part=$(mktemp -d "$apart.XXXXXX") && debs=$part/debs && mkdir "$debs" &&
+        (cd "$debs" && apt-get download -qq -o APT::Sandbox::User=root "${missing_apart[@]}") &&
+        for deb in "$debs"/*.deb; do dpkg-deb -x "$deb" "$part" || return; done &&
+        rm -r "$debs" && mv -T "$part" "$apart"
 }

@@ -66,7 +66,7 @@ enum mfp_input { MFP_TAI = 0, MFP_TBI = 1 };
 #define MFP_IMAGE_TCDCR 16
 #define MFP_IMAGE_DATA 17     /* + timer: the data value, from which it is reloaded */
 #define MFP_IMAGE_COUNTER 21  /* + timer: the main counter */
-#define MFP_IMAGE_POSITION 25 /* + timer: clocks since its last count pulse */
+#define MFP_IMAGE_POSITION 25 /* + timer: clocks towards its next count pulse */
 #define MFP_IMAGE_OUTPUTS 29  /* bit 0 is timer A, bit 3 is D */
 #define MFP_IMAGE_LEVELS 30   /* bit i is line i */
 #define MFP_IMAGE_INPUTS 31   /* bit 0 is TAI, bit 1 is TBI */
@@ -240,6 +240,8 @@ static inline uint8_t mfp_byte(unsigned number)
  * nothing. A number out of range stays out of range, and mfp_run refuses it; a
  * truth value is never out of range.
  */
+
+/* A record of any kind; enum mfp_kind says what a and n are. */
 static inline uint8_t *mfp_put_record(uint8_t *record, unsigned kind, unsigned a, uint32_t n)
 {
     int at;
@@ -255,42 +257,49 @@ static inline uint8_t *mfp_put_record(uint8_t *record, unsigned kind, unsigned a
     return record + MFP_RECORD_BYTES;
 }
 
+/* The reset line. */
 static inline uint8_t *mfp_put_reset(uint8_t *record)
 {
     return mfp_put_record(record, MFP_RESET, 0, 0);
 }
 
+/* Read register rs. */
 static inline uint8_t *mfp_put_read(uint8_t *record, unsigned rs)
 {
     return mfp_put_record(record, MFP_READ, rs, 0);
 }
 
+/* Write value, at most 255, to register rs. */
 static inline uint8_t *mfp_put_write(uint8_t *record, unsigned rs, unsigned value)
 {
     return mfp_put_record(record, MFP_WRITE, rs, value);
 }
 
+/* Line 0 to 7 goes to a level. */
 static inline uint8_t *mfp_put_line(uint8_t *record, unsigned line, bool level)
 {
     return mfp_put_record(record, MFP_LINE, line, level);
 }
 
+/* MFP_TAI or MFP_TBI goes to a level. */
 static inline uint8_t *mfp_put_input(uint8_t *record, unsigned input, bool level)
 {
     return mfp_put_record(record, MFP_INPUT, input, level);
 }
 
+/* So many clocks of the timers, any n. */
 static inline uint8_t *mfp_put_clocks(uint8_t *record, uint32_t n)
 {
     return mfp_put_record(record, MFP_CLOCKS, 0, n);
 }
 
-/* iei: whether IEI is asserted. */
+/* Acknowledge; iei says whether IEI is asserted. */
 static inline uint8_t *mfp_put_acknowledge(uint8_t *record, bool iei)
 {
     return mfp_put_record(record, MFP_ACKNOWLEDGE, iei, 0);
 }
 
+/* Raise serial channel 9 to 12. */
 static inline uint8_t *mfp_put_raise(uint8_t *record, unsigned channel)
 {
     return mfp_put_record(record, MFP_RAISE, channel, 0);

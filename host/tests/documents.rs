@@ -261,6 +261,22 @@ fn what_the_calls_rest_on_is_counted() {
     }
 }
 
+/// The costs in HOST.md are those that BENCHMARKS.md has.
+#[test]
+fn costs_are_those_measured() {
+    let page = read("docs/HOST.md");
+    let measured = read("docs/BENCHMARKS.md");
+    let (_, table) = page
+        .split_once("\n| | One record a call |")
+        .expect("a table of costs");
+    let words = table.split(|c: char| !c.is_ascii_digit() && c != '.');
+    let costs: Vec<&str> = words.filter(|word| word.len() > 2).collect();
+    assert!(costs.len() > 8, "{costs:?}");
+    for cost in costs.iter().filter(|cost| **cost != "512") {
+        assert!(has_word(&measured, cost), "docs/HOST.md: {cost}");
+    }
+}
+
 /// Of each result and each buffer lent to be written. The contracts of clients are demands, and no plain promise
 /// can be read off that of `lent::event`.
 #[test]

@@ -1,4 +1,5 @@
 //! The text form of a tape: one event a line, `#` starts a comment.
+//! `docs/TAPE.md` has the grammar.
 //!
 //! ```text
 //! reset             read IPRB         write VR 48 (hex)
@@ -12,13 +13,23 @@ use crate::reference::{Event, Refusal};
 
 const INPUTS: [&str; 2] = ["TAI", "TBI"];
 const VERBS: &str = "reset, read, write, line, input, clocks, ack or raise";
+const BYTE_ORDER_MARK: [u8; 3] = [0xEF, 0xBB, 0xBF];
 
 /// The tape of a text, or what is wrong in which line.
 pub fn encode(text: &str) -> Result<Vec<u8>, String> {
+    encode_bytes(text.as_bytes())
+}
+
+/// The tape of bytes that should be a text, or what is wrong in which line.
+pub fn encode_bytes(input: &[u8]) -> Result<Vec<u8>, String> {
     let mut tape = Vec::new();
-    for (index, line) in text.lines().enumerate() {
+    for (index, line) in input.split(|byte| *byte == b'\n').enumerate() {
         let said = |wrong: String| format!("line {}: {wrong}", index + 1);
-        if let Some(event) = parse(line).map_err(said)? {
+        if index == 0 && line.starts_with(&BYTE_ORDER_MARK) {
+            let wrong = "the text opens with a byte order mark (EF BB BF): save it without one";
+            return Err(said(wrong.to_string()));
+        }
+        if let Some(event) = text_of(line).and_then(parse).map_err(said)? {
             tape.extend(encode_record(&event));
         }
         if tape.len() > TAPE_MAX {
@@ -59,6 +70,19 @@ pub fn format(event: &Event) -> String {
         Event::Acknowledge(false) => "ack iei=0".to_string(),
         Event::Raise(channel) => format!("raise {channel}"),
     }
+}
+
+/// A line's bytes as text: UTF-8, and of the control characters tab and carriage return alone.
+fn text_of(line: &[u8]) -> Result<&str, String> {
+    let control = |byte: &u8| byte.is_ascii_control() && !b"\t\r".contains(byte);
+    let wrong = match std::str::from_utf8(line) {
+        Ok(text) => match line.iter().position(control) {
+            None => return Ok(text),
+            Some(at) => at,
+        },
+        Err(error) => error.valid_up_to(),
+    };
+    Err(format!("the byte {:02X} is no text", line[wrong]))
 }
 
 /// The event of a line; none if it is blank or a comment.
@@ -111,7 +135,9 @@ impl Words<'_> {
 
     fn hex(&mut self) -> Result<u8, String> {
         self.next("a value in one or two hex digits", |word| {
-            digits(word, 16).and_then(|value| u8::try_from(value).ok())
+            digits(word, 16)
+                .filter(|_| word.len() <= 2)
+                .map(|value| value as u8)
         })
     }
 

@@ -6,13 +6,16 @@
 use std::fs;
 use std::path::{Path, PathBuf};
 
-const DOCUMENTS: [&str; 7] = [
+const DOCUMENTS: [&str; 10] = [
     "README.md",
     "docs/API.md",
+    "docs/BENCHMARKS.md",
     "docs/DECISIONS.md",
+    "docs/HOST.md",
     "docs/LAYOUT.md",
     "docs/MAP.md",
     "docs/RULED_OUT.md",
+    "docs/TAPE.md",
     "docs/TRUST.md",
 ];
 
@@ -47,11 +50,17 @@ fn source(library: &str) -> String {
     read(&format!("crates/{library}/src/lib.rt"))
 }
 
+/// A document without its blocks of code.
+fn prose(document: &str) -> String {
+    let text = read(document);
+    text.split("\n```").step_by(2).collect()
+}
+
 /// What stands between backquotes, with the document that has it.
 fn quoted() -> Vec<(&'static str, String)> {
     let mut spans = Vec::new();
     for document in DOCUMENTS {
-        let text = read(document);
+        let text = prose(document);
         for span in text.split('`').skip(1).step_by(2) {
             spans.push((document, span.to_string()));
         }
@@ -207,6 +216,65 @@ fn rows_are_true() {
         }
     }
     assert!(seen > 30, "{seen}");
+}
+
+/// The definition files that a file cites, as `crates/run/specs/Runs.antt`.
+fn cited_by(path: &str) -> Vec<String> {
+    let text = read(path);
+    let places = text.split("Rattle·").skip(1);
+    let files = places.filter_map(|place| {
+        let (library, rest) = place.split_once(".specs.")?;
+        let library = library.trim_end_matches("·specs");
+        let file = rest.split(|c: char| !c.is_alphanumeric()).next()?;
+        Some(format!("crates/{library}/specs/{file}.antt"))
+    });
+    // What is declared in a crate's source has no file.
+    files.filter(|file| root().join(file).exists()).collect()
+}
+
+/// README.md counts the definition files that the two calls rest on, and their lines.
+#[test]
+fn what_the_calls_rest_on_is_counted() {
+    let mut files = cited_by("crates/mfp/src/lib.rt");
+    let mut next = 0;
+    while next < files.len() {
+        for file in cited_by(&files[next]) {
+            if !files.contains(&file) {
+                files.push(file);
+            }
+        }
+        next += 1;
+    }
+    files.sort();
+    files.dedup();
+    let lines: usize = files.iter().map(|file| read(file).lines().count()).sum();
+    let counted = format!(
+        "{} files, {},{:03} lines",
+        files.len(),
+        lines / 1000,
+        lines % 1000
+    );
+    assert!(read("README.md").contains(&counted), "{counted}");
+    let trusted = read("docs/TRUST.md");
+    for file in files {
+        assert!(trusted.contains(&format!("`{file}`")), "{file}");
+    }
+}
+
+/// The costs in HOST.md are those that BENCHMARKS.md has.
+#[test]
+fn costs_are_those_measured() {
+    let page = read("docs/HOST.md");
+    let measured = read("docs/BENCHMARKS.md");
+    let (_, table) = page
+        .split_once("\n| | One record a call |")
+        .expect("a table of costs");
+    let words = table.split(|c: char| !c.is_ascii_digit() && c != '.');
+    let costs: Vec<&str> = words.filter(|word| word.len() > 2).collect();
+    assert!(costs.len() > 8, "{costs:?}");
+    for cost in costs.iter().filter(|cost| **cost != "512") {
+        assert!(has_word(&measured, cost), "docs/HOST.md: {cost}");
+    }
 }
 
 /// Of each result and each buffer lent to be written. The contracts of clients are demands, and no plain promise

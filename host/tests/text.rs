@@ -5,7 +5,7 @@ use mfp_host::reference::layout::REGISTERS;
 use mfp_host::reference::tape::encode_record;
 use mfp_host::reference::Event;
 use mfp_host::rng::Rng;
-use mfp_host::text::{decode, encode};
+use mfp_host::text::{decode, encode, encode_bytes};
 
 /// One line and the eight bytes the paper gives it.
 fn is(line: &str, record: [u8; 8]) {
@@ -70,6 +70,7 @@ fn lines_it_cannot_read() {
         ("halt", "halt", verbs),
         ("Reset", "Reset", verbs),
         ("write VR 100", "100", value),
+        ("write VR 048", "048", value),
         ("write VR 0x48", "0x48", value),
         ("write VR +8", "+8", value),
         ("line 8 1", "8", "a line (0 to 7)"),
@@ -102,6 +103,94 @@ fn errors_name_the_line_and_what_is_missing() {
         "reset\nread IPRC",
         &format!("line 2: `IPRC`: expected a register ({registers})"),
     );
+}
+
+#[test]
+fn bytes_that_are_no_text() {
+    let wrong = |input: &[u8], message: &str| {
+        assert_eq!(encode_bytes(input), Err(message.to_string()), "{input:?}");
+    };
+    let mark = "line 1: the text opens with a byte order mark (EF BB BF): save it without one";
+    wrong(b"\xEF\xBB\xBFreset\n", mark);
+    wrong(b"\xEF\xBB\xBF", mark);
+    wrong(b"reset\n\n# \xFF\nack", "line 3: the byte FF is no text");
+    wrong(b"reset\nack # \xC3", "line 2: the byte C3 is no text");
+    wrong(b"r\0e\0", "line 1: the byte 00 is no text");
+    wrong(b"reset\x0C", "line 1: the byte 0C is no text");
+    wrong(b"reset \x7F", "line 1: the byte 7F is no text");
+    // The first wrong line is named, whatever is wrong with it.
+    let expected = "expected reset, read, write, line, input, clocks, ack or raise";
+    wrong(b"halt\n\xFF", &format!("line 1: `halt`: {expected}"));
+    wrong(b"\xFE\xFF\nhalt", "line 1: the byte FE is no text");
+    let comment = "reset # ein Gru\u{DF}\n";
+    assert_eq!(encode_bytes(comment.as_bytes()), encode("reset"));
+}
+
+#[test]
+fn white_space_and_leading_zeros() {
+    assert_eq!(encode("\u{A0}line\t05  1\r\n"), encode("line 5 1"));
+    assert_eq!(encode("clocks 0000000000012"), encode("clocks 12"));
+    assert_eq!(encode("raise 012"), encode("raise 12"));
+    wrong("line 5 01", "line 1: `01`: expected a level (0 or 1)");
+}
+
+/// The rows of a table of docs/TAPE.md, by its heading's first cell: the cells of each.
+fn rows(first: &str) -> Vec<Vec<&'static str>> {
+    let grammar = include_str!("../../docs/TAPE.md");
+    let table = grammar.lines().skip_while(|line| !line.starts_with(first));
+    let rows: Vec<_> = table
+        .skip(2)
+        .take_while(|line| line.starts_with("| "))
+        .map(|line| line.trim_matches(['|', ' ']).split(" | ").collect())
+        .collect();
+    assert!(rows.len() > 5, "{first}: {} rows", rows.len());
+    rows
+}
+
+/// The first text between backquotes.
+fn quoted(cell: &str) -> &str {
+    cell.split('`').nth(1).expect("a text between backquotes")
+}
+
+#[test]
+fn the_grammar_is_true() {
+    let mut kinds = [0; 8];
+    for row in rows("| Line | Operands |") {
+        let [form, _, kind, example, record] = row[..] else {
+            panic!("{row:?}");
+        };
+        let bytes: Vec<u8> = record
+            .split(' ')
+            .map(|byte| u8::from_str_radix(byte, 16).expect("two hex digits"))
+            .collect();
+        let line = quoted(example);
+        assert_eq!(encode(line), Ok(bytes.clone()), "{line}");
+        assert_eq!(decode(&bytes), Ok(format!("{line}\n")), "{line}");
+        assert!(line.starts_with(quoted(form)), "{line}");
+        assert_eq!(bytes[2].to_string(), kind, "{line}");
+        kinds[usize::from(bytes[2])] += 1;
+    }
+    assert!(kinds.iter().all(|count| *count > 0), "{kinds:?}");
+    let grammar = include_str!("../../docs/TAPE.md");
+    let named = grammar
+        .lines()
+        .find_map(|line| line.strip_prefix("Registers: "))
+        .expect("the registers");
+    let names: Vec<&str> = named
+        .split(|c: char| !c.is_ascii_alphanumeric())
+        .filter(|word| word.len() > 1 && word.chars().all(|c| c.is_ascii_uppercase()))
+        .collect();
+    assert_eq!(names, REGISTERS);
+}
+
+#[test]
+fn what_the_grammar_turns_away() {
+    for row in rows("| Text | Message |") {
+        let [text, message] = row[..] else {
+            panic!("{row:?}");
+        };
+        wrong(quoted(text), message);
+    }
 }
 
 #[test]

@@ -84,6 +84,87 @@ fn has_word(text: &str, word: &str) -> bool {
     })
 }
 
+/// Files and folders, but for those that stand for many or that a run makes.
+#[test]
+fn paths_named_are_there() {
+    let mut seen = 0;
+    for (document, span) in quoted() {
+        let path = span.split(' ').next().unwrap();
+        let ours = ["crates/", "docs/", "examples/", "host/", ".ci/"];
+        if path.contains('*') || !ours.iter().any(|folder| path.starts_with(folder)) {
+            continue;
+        }
+        assert!(root().join(path).exists(), "{document}: {path}");
+        seen += 1;
+    }
+    assert!(seen > 50, "{seen}");
+}
+
+/// A name such as `Timer::pulse` or `run::run` is of a function, a constant or a case of ours.
+#[test]
+fn paths_of_functions_lead_there() {
+    let texts: Vec<(String, String)> = libraries()
+        .into_iter()
+        .map(|library| (library.clone(), source(&library)))
+        .collect();
+    let mut seen = 0;
+    for (document, span) in quoted() {
+        let Some((owner, name)) = span.split_once("::") else {
+            continue;
+        };
+        let plain = |text: &str| text.chars().all(|c| c.is_alphanumeric() || c == '_');
+        if !plain(owner) || !plain(name) {
+            continue;
+        }
+        let declares = |text: &str| {
+            ["fn ", "const ", "struct ", "enum "]
+                .iter()
+                .any(|kind| text.contains(&format!("{kind}{name}")))
+        };
+        let has_owner = |text: &str| {
+            ["struct ", "enum ", "impl "]
+                .iter()
+                .any(|kind| has_word(text, &format!("{kind}{owner}")))
+        };
+        let mut of_us = texts.iter().filter(|(library, text)| {
+            library == owner || (has_owner(text) && owner.starts_with(char::is_uppercase))
+        });
+        let mut met = false;
+        let here = of_us.any(|(_, text)| {
+            met = true;
+            declares(text) || has_word(text, name)
+        });
+        assert!(here || !met, "{document}: {span}");
+        seen += usize::from(met);
+    }
+    assert!(seen > 40, "{seen}");
+}
+
+/// As `rt must-fail` wants it: each text that an edit replaces stands once in its file.
+#[test]
+fn edits_apply() {
+    let mut seen = 0;
+    for library in libraries() {
+        for edit in names_in(&format!("crates/{library}/must-fail")) {
+            let edit = format!("crates/{library}/must-fail/{edit}");
+            let (mut file, mut text, mut old) = (String::new(), String::new(), String::new());
+            for line in read(&edit).lines() {
+                if let Some(name) = line.strip_prefix("file: ") {
+                    file = name.to_string();
+                    text = read(&format!("crates/{library}/{file}"));
+                } else if let Some(words) = line.strip_prefix("old: ") {
+                    old = words.to_string();
+                } else if let Some(new) = line.strip_prefix("new:") {
+                    assert_eq!(text.matches(&old).count(), 1, "{edit}: {file}: {old}");
+                    text = text.replace(&old, new.strip_prefix(' ').unwrap_or(new));
+                    seen += 1;
+                }
+            }
+        }
+    }
+    assert!(seen > 100, "{seen}");
+}
+
 #[test]
 fn functions_named_are_there() {
     let mut seen = 0;
@@ -155,7 +236,10 @@ fn edits_named_are_there_and_all_are_listed() {
 fn public_functions(library: &str) -> Vec<(String, String)> {
     let mut functions = Vec::new();
     let mut owner = String::new();
-    for line in source(library).lines() {
+    let text = source(library);
+    let mut at = 0;
+    for whole in text.split_inclusive('\n') {
+        let line = whole.trim_end();
         if let Some(rest) = line.strip_prefix("impl ") {
             owner = rest.replace(" {", "::");
         } else if line == "}" {
@@ -167,8 +251,10 @@ fn public_functions(library: &str) -> Vec<(String, String)> {
             .or_else(|| line.strip_prefix("pub extern \"C\" fn "))
         {
             let name = rest.split('(').next().unwrap();
-            functions.push((format!("{owner}{name}"), line.to_string()));
+            let declared = text[at..].split('{').next().unwrap();
+            functions.push((format!("{owner}{name}"), declared.to_string()));
         }
+        at += whole.len();
     }
     functions
 }

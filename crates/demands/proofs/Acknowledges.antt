@@ -23,7 +23,7 @@ use Rattle.events.specs.declared.Answer.the-variants.{Done, Data, Vector, Passe
 use Rattle.device.specs.declared.Stepped.{Stepped}
 use Rattle.device.specs.Whole.{withInterrupts}
 use Rattle.events.specs.Numbers.{classOf, valueOf}
-use Rattle.step.specs.Events.{replied, stepOf}
+use Rattle.step.specs.Events.{replied, stepOf, effectOf}
 use Rattle.tape.specs.Tapes.{records}
 use Rattle.answer.specs.Answers.{answerOf}
 use Rattle.run.specs.Runs.{resultOf}
@@ -85,7 +85,7 @@ module _ (d : Device) (c : Channel) (h : highest (d .interrupts) ≡ By c) where
   stays-served false s k f = ap (λ (n : ℕ). has n k) (unserved true i s)
 
   gave : Gave d (stepOf d (Acknowledge true) .device) (c .0) (vectorOf c i)
-  unfolding stepOf given vectorOf
+  unfolding effectOf given vectorOf
   gave = record {
     channel = requesting-below i c h;
     requests = requests-highest i c h .0;
@@ -104,7 +104,7 @@ module _ (d : Device) (c : Channel) (h : highest (d .interrupts) ≡ By c) where
 
 -- ---- an acknowledge of a device
 pub gives-vector : GivesVector
-unfolding stepOf acknowledged vectorOf
+unfolding effectOf acknowledged vectorOf
 gives-vector d false v e = let z : _≡_ {A = ℕ} 0 1 = cc in absurd (omega arith)
 gives-vector d true v e = go (highest (d .interrupts)) refl e
   where
@@ -117,7 +117,7 @@ gives-vector d true v e = go (highest (d .interrupts)) refl e
     go Nobody h p = let z : _≡_ {A = ℕ} 0 1 = cc in absurd (omega arith)
 
 pub request-is-served : RequestIsServed
-unfolding stepOf
+unfolding effectOf
 request-is-served d q = go (highest (d .interrupts)) refl (irq-found (d .interrupts) ∙ q)
   where
     go : (r : Requesting) → highest (d .interrupts) ≡ r → found r ≡ true → Served d
@@ -125,7 +125,7 @@ request-is-served d q = go (highest (d .interrupts)) refl (irq-found (d .interru
     go Nobody e f = absurd (false≢true f)
 
 pub no-vector : NoVector
-unfolding stepOf acknowledged
+unfolding effectOf acknowledged
 no-vector d false f = refl
 no-vector d true f = go (highest (d .interrupts)) f
   where

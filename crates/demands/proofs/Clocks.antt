@@ -9,18 +9,18 @@ use Rattle.events.specs.declared.Event.{Event}
 use Rattle.events.specs.declared.Event.the-variants.{Clocks}
 use Rattle.timeouts.specs.Clocks.{none, addTimeouts}
 use Rattle.step.specs.Clocks.{clockTimeouts, clockDevice, clocksDevice, timeoutsDevice}
-use Rattle.step.specs.Events.{stepOf}
+use Rattle.step.specs.Events.{stepOf, effectOf}
 use Rattle.answer.specs.Answers.{answerOf}
 use Rattle.run.specs.Runs.{runOf, answersOf}
 use Rattle.demands.specs.Clocks.{NClocks, SingleClocks, timeoutsOf, SingleClocksCounts, ClocksJoin, ClocksJoinCounts, RunParts, AnswerParts, beforeSpan, whole, JoinedDevice, JoinedCounts, JoinedRun, CutAnswers, JoinedAnswers}
 
 -- ---- one event of n clocks
 pub n-clocks : NClocks
-unfolding stepOf
+unfolding effectOf
 n-clocks d n = refl
 
 pub single-clocks : SingleClocks
-unfolding runOf stepOf clocksDevice
+unfolding runOf effectOf clocksDevice
 single-clocks d zero = refl
 single-clocks d (suc n) = single-clocks (clockDevice d) n
 
@@ -31,7 +31,7 @@ none-added : (t : Timeouts) → addTimeouts t none ≡ t
 none-added t = λ k. record { a = add-zero (t .a) k; b = add-zero (t .b) k; c = add-zero (t .c) k; d = add-zero (t .d) k }
 
 pub single-clocks-counts : SingleClocksCounts
-unfolding timeoutsOf stepOf clocksDevice timeoutsDevice
+unfolding timeoutsOf effectOf clocksDevice timeoutsDevice
 single-clocks-counts d zero = refl
 single-clocks-counts d (suc n) = ap₂ addTimeouts (none-added (clockTimeouts d)) (single-clocks-counts (clockDevice d) n)
 
@@ -68,11 +68,11 @@ answer-parts d (x ∷ xs) ys =
 -- ---- joined and cut, for any events before and after
 module _ (d : Device) (before : List Event) (m n : ℕ) where
   pub joined-device : JoinedDevice d before m n
-  unfolding stepOf
+  unfolding effectOf
   joined-device = sym (clocks-join m n (beforeSpan d before m n))
 
   pub joined-counts : JoinedCounts d before m n
-  unfolding stepOf
+  unfolding effectOf
   joined-counts = sym (clocks-join-counts m n (beforeSpan d before m n))
 
   pub joined-run : JoinedRun d before m n

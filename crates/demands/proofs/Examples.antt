@@ -31,18 +31,18 @@ use Rattle.step.specs.Clocks.{clocksDevice, timeoutsDevice}
 use Rattle.device.specs.Whole.{readOf}
 use Rattle.step.specs.Events.{writeStep}
 use Rattle.device.specs.Whole.{freshDevice, irqOf}
-use Rattle.step.specs.Events.{stepOf}
+use Rattle.step.specs.Events.{effectOf}
 use Rattle.step.proofs.Clocks.{clocks-each}
 use Rattle.demands.specs.Examples.{P1, P2, Delays, P3, P4, P5, P6, P7, masked, unmasked, P8, P9, P10, P11, P12, B1, B2}
 use Rattle.bits.proofs.Bits.{halves}
 
 -- ---- acknowledge
 pub P1-holds : P1
-unfolding stepOf freshDevice acknowledged highest highestBelow requests has
+unfolding effectOf freshDevice acknowledged highest highestBelow requests has
 P1-holds = refl
 
 pub P2-holds : P2
-unfolding stepOf acknowledged
+unfolding effectOf acknowledged
 P2-holds d h = (refl, refl)
 
 -- ---- a timer in a delay mode from position 0
@@ -86,7 +86,7 @@ unfolding span
 P4-holds active t s = (timeouts-counted 200 0 t (lit≤ tt) s 51199 active, timeouts-counted 200 0 t (lit≤ tt) s 51200 active)
 
 pub P5-holds : P5
-unfolding stepOf clocksDevice timeoutsDevice
+unfolding effectOf clocksDevice timeoutsDevice
 P5-holds d = (refl, refl)
 
 pub P6-holds : P6
@@ -106,7 +106,7 @@ kept-half A s v = let l : s % 256 < 256 = mod-lt s (lit< tt) in omega arith
 kept-half B s v = let l : bitAnd (s % 256) v < 256 = lt-of-le-of-lt (and-le-l (s % 256) v) (mod-lt s (lit< tt)) in omega arith
 
 pub P7-holds : P7
-unfolding stepOf writeStep readOf interruptRead interruptWritten
+unfolding effectOf writeStep readOf interruptRead interruptWritten
 P7-holds d h v k e = (
   ap (λ (n : ℕ). has n k) (kept-half h (d .interrupts .pending) v)
       ∙ has-and (half h (d .interrupts .pending)) v k
@@ -116,24 +116,24 @@ P7-holds d h v k e = (
 )
 
 pub P8-holds : P8
-unfolding stepOf writeStep interruptWritten withHalf irq someRequests requests has
+unfolding effectOf writeStep interruptWritten withHalf irq someRequests requests has
 P8-holds d c h = (same _ _ (everywhere 16 (λ (c : ℕ). Bool·beq (irqOf (masked c d)) false) tt c h), same _ _ (everywhere 16 (λ (c : ℕ). Bool·beq (irqOf (unmasked c d)) true) tt c h))
 
 pub P9-holds : P9
-unfolding stepOf writeStep readOf interruptRead interruptWritten
+unfolding effectOf writeStep readOf interruptRead interruptWritten
 P9-holds d e = (kept-half A (d .interrupts .pending) 0xDF ∙ ap (λ (n : ℕ). bitAnd n 0xDF) e, kept-half A (d .interrupts .pending) 0xFF ∙ ap (λ (n : ℕ). bitAnd n 0xFF) e)
 
 pub P10-holds : P10
-unfolding stepOf acknowledged highest highestBelow vectorOf requests has
+unfolding effectOf acknowledged highest highestBelow vectorOf requests has
 P10-holds d p m n s = rw (p, m, n, s) (refl, refl, refl)
 
 -- ---- lines and inputs
 pub P11-holds : P11
-unfolding stepOf writeStep readOf lineWritten interruptRead half signalled changeRaises signalRaises signalTimers signalTimeouts counts inputBecomes inputCeases pulseEnds lineRaises muted linesBelow raisedBy lineActive inputActive raised has setOf channelOf pulseWidth
+unfolding effectOf writeStep readOf lineWritten interruptRead half signalled changeRaises signalRaises signalTimers signalTimeouts counts inputBecomes inputCeases pulseEnds lineRaises muted linesBelow raisedBy lineActive inputActive raised has setOf channelOf pulseWidth
 P11-holds d = (refl, refl)
 
 pub P12-holds : P12
-unfolding stepOf readOf interruptRead half withInput signalled changeRaises signalRaises signalTimers signalTimeouts counts inputBecomes inputCeases pulseEnds lineRaises muted linesBelow raisedBy lineActive inputActive raised has setOf channelOf pulseWidth
+unfolding effectOf readOf interruptRead half withInput signalled changeRaises signalRaises signalTimers signalTimeouts counts inputBecomes inputCeases pulseEnds lineRaises muted linesBelow raisedBy lineActive inputActive raised has setOf channelOf pulseWidth
 P12-holds d = (refl, refl)
 
 -- ---- timer data
@@ -142,11 +142,11 @@ unfolding delay
 delay-not-0 mode e z = let l : 1 ≤ mode = leb-true _ _ (halves _ _ e .0) in omega arith
 
 pub B1-holds : B1
-unfolding stepOf writeStep timerWritten reloadWritten
+unfolding effectOf writeStep timerWritten reloadWritten
 B1-holds d e k = rw (ne-eqb _ _ (delay-not-0 (d .timers .c .mode) e)) k
 
 pub B2-holds : B2
-unfolding stepOf readOf timerRead counterAfter left unit span
+unfolding effectOf readOf timerRead counterAfter left unit span
 B2-holds d s =
     ap (λ (x : Device). Data (x .timers .c .counter)) (clocks-each 4 d)
     ∙ ap (λ (u : Timer). Data (u .counter)) (clocked-at-once 4 3 (d .timers .c) (lit≤ tt) s 4 false (lit< tt) (eqb-false _ _ refl))

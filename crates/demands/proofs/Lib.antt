@@ -8,6 +8,7 @@ pub mod Images
 pub mod ByteRule
 pub mod Records
 pub mod Refusals
+pub mod Entries
 pub mod Found
 pub mod Accepted
 pub mod Raised

@@ -40,7 +40,7 @@ use Rattle.device.specs.Signals.{timerOf, counts, signalTimers, changeRaises, s
 use Rattle.step.specs.Clocks.{timeoutsDevice}
 use Rattle.step.specs.Events.{writeStep}
 use Rattle.device.specs.Whole.{resetDevice}
-use Rattle.step.specs.Events.{stepOf}
+use Rattle.step.specs.Events.{stepOf, effectOf}
 use Rattle.step.proofs.Clocks.{spanTimers, clocks-each}
 use Rattle.demands.specs.Rule.{WritesByte}
 use Rattle.demands.specs.Parts.{Name, A, B, C, D, Part, gpdr, aer, ddr, levels, tai, tbi, vector, enabled, pending, service, mask, mode, reload, counter, position, output, timerNamed, partOf, touched, among, AnEventChangesOnlyItsRow, PartsAreAll}
@@ -240,7 +240,7 @@ same-is : (i : Interrupts) → i ≡ same i
 same-is i = λ k. record { enabled = whole (i .enabled) k; pending = whole (i .pending) k; service = whole (i .service) k; mask = whole (i .mask) k; vector = i .vector }
 
 by-write : (r : Register) (v : ℕ) → v < 256 → (x : Device) → Only (Write r v) x
-unfolding Only stepOf writeStep lineWritten interruptWritten timerWritten controlled reloadWritten vectorWritten signalled signalTimers raised
+unfolding Only effectOf writeStep lineWritten interruptWritten timerWritten controlled reloadWritten vectorWritten signalled signalTimers raised
 by-write (OfLines Gpdr) v l x = λ k. record { lines = lineWritten Gpdr v (x .lines); interrupts = same-is (x .interrupts) k; timers = x .timers }
 by-write (OfLines Aer) v l x = λ k. record {
   lines = lineWritten Aer v (x .lines);
@@ -270,7 +270,7 @@ abbrev ran : ℕ → Device → Device
 ran n x = record { lines = x .lines; interrupts = raised (raisedBy (timeoutRaises (timeoutsDevice n x))) (x .interrupts); timers = spanTimers n x }
 
 by-clocks : (n : ℕ) (x : Device) → Only (Clocks n) x
-unfolding Only stepOf raised
+unfolding Only effectOf raised
 by-clocks n x = clocks-each n x ∙ each ∙ ap (λ (y : Device). only (touched (Clocks n)) y x) (sym (clocks-each n x))
   where
     each : ran n x ≡ only (touched (Clocks n)) (ran n x) x
@@ -298,7 +298,7 @@ served (By c) i = same-is (given c i)
 served Nobody i = same-is i
 
 by-event : (e : Event) → WritesByte e → (x : Device) → Only e x
-unfolding Only stepOf resetDevice withLevel withInput signalled signalTimers raised acknowledged inputActive
+unfolding Only effectOf resetDevice withLevel withInput signalled signalTimers raised acknowledged inputActive
 by-event Reset b x = λ k. record { lines = resetLines (x .lines); interrupts = same-is clearInterrupts k; timers = resetTimers (x .timers) }
 by-event (Read r) b x = λ k. record { lines = x .lines; interrupts = same-is (x .interrupts) k; timers = x .timers }
 by-event (Write r v) b x = by-write r v b x

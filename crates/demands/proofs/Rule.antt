@@ -19,7 +19,7 @@ use Rattle.device.specs.Signals.{counts, signalTimers, signalled}
 use Rattle.step.specs.Clocks.{clocksDevice}
 use Rattle.step.specs.Events.{writeStep}
 use Rattle.device.specs.Whole.{resetDevice, imageRule}
-use Rattle.step.specs.Events.{stepOf}
+use Rattle.step.specs.Events.{stepOf, effectOf}
 use Rattle.step.proofs.Clocks.{clocks-each}
 use Rattle.demands.specs.Rule.{WritesByte, EveryEventKeepsTheRule}
 
@@ -54,7 +54,7 @@ module _ (d : Device) (k : RuleParts d) where
   written-keeps (OfTimers r) v h = record { interrupts = k .interrupts; timers = written-settles (d .timers) (k .timers) r v }
 
 step-keeps : (d : Device) → RuleParts d → (e : Event) → WritesByte e → RuleParts (stepOf d e .device)
-unfolding stepOf resetDevice
+unfolding effectOf resetDevice
 step-keeps d k Reset h = record { interrupts = clear-ruled; timers = reset-settles (d .timers) (k .timers) }
 step-keeps d k (Read r) h = k
 step-keeps d k (Write r v) h = written-keeps d k r v h

@@ -16,7 +16,7 @@ use Rattle.device.specs.declared.Stepped.{Stepped}
 use Rattle.timeouts.specs.Clocks.{none}
 use Rattle.step.specs.Clocks.{clockTimeouts, clockDevice, timeoutsDevice}
 use Rattle.device.specs.Whole.{irqOf, shownOutputs}
-use Rattle.step.specs.Events.{stepOf}
+use Rattle.step.specs.Events.{stepOf, effectOf}
 use Rattle.bits.specs.Bits.{bitValue}
 use Rattle.events.specs.Numbers.{classOf, valueOf}
 use Rattle.bits.specs.Bytes.{byte}
@@ -72,11 +72,11 @@ unfolding answerOf
 heads-agree s t p q = ap₂ (λ (a : Answer) (d : Device). answerMark0 ∷ answerMark1 ∷ classOf a ∷ valueOf a ∷ bitValue (irqOf d) 1 ∷ shownOutputs d ∷ []) p q
 
 clocks-done : (d : Device) (n : ℕ) → SaysDone (answerOf (stepOf d (Clocks n)))
-unfolding stepOf answerOf
+unfolding effectOf answerOf
 clocks-done d n = record { class = refl; value = refl }
 
 clocks-count : (d : Device) (n k : ℕ) → n ≤ mostClocks → k < 4 → countAt k (answerOf (stepOf d (Clocks n))) ≡ count k (stepOf d (Clocks n) .timeouts)
-unfolding stepOf
+unfolding effectOf
 clocks-count d n k h l = count-written k (stepOf d (Clocks n)) l (omega (arith, timeouts-within k n d))
 
 -- ---- the two tapes
@@ -175,7 +175,7 @@ module _ (image cut joined : List ℕ) (i m n : ℕ) (s : Spanned cut joined i m
     whole-answer = answer-left image joined answers ok′ i (s .within) (Clocks (m + n)) (s .whole)
 
     head : take headBytes (answerTo image cut answers′ (i + 1)) ≡ take headBytes (answerTo image joined answers i)
-    unfolding stepOf
+    unfolding effectOf
     head = ap (take headBytes) second-answer ∙ heads-agree second whole refl (sym same-device) ∙ ap (take headBytes) (sym whole-answer)
 
     head-byte : (k : ℕ) → k < headBytes → byte (answerTo image cut answers′ (i + 1)) k ≡ byte (answerTo image joined answers i) k

@@ -5,6 +5,7 @@ pub mod Rule
 pub mod Clocks
 pub mod Images
 pub mod Refusals
+pub mod Entries
 pub mod Tapes
 pub mod Acknowledges
 pub mod Parts

@@ -1,6 +1,9 @@
--- One set of raises per event: which channels it raises, and how often. But for a reset, an acknowledge and a write of an interrupt register, which have rules of their own, nothing else of the interrupts changes. Proved in proofs/Raised.antt.
+-- One set of raises per event: which channels it raises, and how often. But for a reset, an acknowledge and a write of an interrupt register, which have rules of their own and raise nothing, nothing else of the interrupts changes. Proved in proofs/Raised.antt.
+use Prim.Native.Nat.{ℕ}
 use mathlib.Core.Path.{_≡_}
+use mathlib.Core.Bool.{true}
 use mathlib.Core.List.{List, [], _∷_}
+use Rattle.channels.specs.Channels.{has}
 use Rattle.channels.specs.Raises.{Raises, raises, raisedBy}
 use Rattle.interrupts.specs.Interrupts.{raised}
 use Rattle.timeouts.specs.Clocks.{timeoutRaises}
@@ -44,3 +47,7 @@ OnlyRaises (Raise c) = Unit {0}
 
 abbrev pub RaisedAtOnce : Type 0
 RaisedAtOnce = (d : Device) (e : Event) → OnlyRaises e → stepOf d e .device .interrupts ≡ raised (raisedBy (raisesOf d e)) (d .interrupts)
+
+-- an event with a rule of its own raises nothing: no channel becomes pending by it
+abbrev pub OthersRaiseNothing : Type 0
+OthersRaiseNothing = (d : Device) (e : Event) → (OnlyRaises e → ⊥) → (k : ℕ) → has (stepOf d e .device .interrupts .pending) k ≡ true → has (d .interrupts .pending) k ≡ true

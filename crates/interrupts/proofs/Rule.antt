@@ -71,7 +71,7 @@ module _ (p e : ℕ) (h : bitAnd p e ≡ p) where
   low-within = sym (and-mod p e 8) ∙ ap (λ (n : ℕ). n % 256) h
 
   -- a write of IPR: what is kept stays within enabled
-  kept-within : (r : Half) (v : ℕ) → bitAnd (kept r p v) e ≡ kept r p v
+  pub kept-within : (r : Half) (v : ℕ) → bitAnd (kept r p v) e ≡ kept r p v
   unfolding kept withHalf half
   kept-within A v =
       ap (bitAnd (bitAnd (p / 256) v * 256 + p % 256)) (sym (div-add-mod' e 256))

@@ -1,4 +1,4 @@
--- What the run takes of a record that the check has let pass, without looking at it whole again: its kind, its a and the lowest byte of n decide. No public function promises it but `known`; of such a record it is the very event that the record means (proofs/Taken.antt: taken-is-meant).
+-- What the run takes of a record that the check has let pass, without looking at it whole again: its kind, its a and the lowest byte of n decide. `tape::event_at` promises it; of such a record it is the very event that the record means (proofs/Taken.antt: taken-is-meant).
 use mathlib.Core.List.{List, [], _∷_}
 use lib.Dec.{eqb}
 use lib.ListN.{getD}

@@ -1,6 +1,5 @@
-// One record of a tape, by value: what the check finds of it, and the event that the run takes of it.
-// The rules stand in specs/Records.antt, what check and run keep of them in Verdicts and Taken. Every
-// function is total.
+// One record of a tape, by value: what the check finds of it. The rules stand in specs/Records.antt, what
+// check and run keep of them in Verdicts and Taken. Every function is total.
 use events::Event;
 use events::Refusal;
 use lines::TimerInput;

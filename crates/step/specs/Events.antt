@@ -38,12 +38,16 @@ replied GivenOn = PassedOn
 replied GivenHeld = Held
 
 -- "Kinds: 0 reset; 1 read rs a; 2 write rs a [..]; 3 line a (0–7) to level n (0, 1); 4 input a (0 TAI, 1 TBI) to level n; 5 n clocks, any n; 6 acknowledge [..]; 7 raise channel a (9–12)."
-unfoldable pub stepOf : Device → Event → Stepped
-stepOf d Reset = done (resetDevice d)
-stepOf d (Read r) = record { device = d; answer = Data (readOf r d); timeouts = none }
-stepOf d (Write r v) = writeStep r v d
-stepOf d (Level i high) = signalStep (withLevel i high (d .lines)) d
-stepOf d (Input i high) = signalStep (withInput i high (d .lines)) d
-stepOf d (Clocks n) = record { device = clocksDevice n d; answer = Done; timeouts = timeoutsDevice n d }
-stepOf d (Acknowledge iei) = record { device = withInterrupts (acknowledged iei (d .interrupts) .interrupts) d; answer = replied (acknowledged iei (d .interrupts) .reply); timeouts = none }
-stepOf d (Raise c) = done (withInterrupts (raised (raisedBy (raises 1 c ∷ [])) (d .interrupts)) d)
+unfoldable pub effectOf : Device → Event → Stepped
+effectOf d Reset = done (resetDevice d)
+effectOf d (Read r) = record { device = d; answer = Data (readOf r d); timeouts = none }
+effectOf d (Write r v) = writeStep r v d
+effectOf d (Level i high) = signalStep (withLevel i high (d .lines)) d
+effectOf d (Input i high) = signalStep (withInput i high (d .lines)) d
+effectOf d (Clocks n) = record { device = clocksDevice n d; answer = Done; timeouts = timeoutsDevice n d }
+effectOf d (Acknowledge iei) = record { device = withInterrupts (acknowledged iei (d .interrupts) .interrupts) d; answer = replied (acknowledged iei (d .interrupts) .reply); timeouts = none }
+effectOf d (Raise c) = done (withInterrupts (raised (raisedBy (raises 1 c ∷ [])) (d .interrupts)) d)
+
+-- One event: its effect. What a later rule does at the end of every event, it does here; the paper has nothing there yet.
+abbrev pub stepOf : Device → Event → Stepped
+stepOf d e = effectOf d e

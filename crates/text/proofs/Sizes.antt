@@ -9,7 +9,8 @@ use Rattle.events.specs.declared.Answer.the-variants.{Done, Data, Vector, Passe
 use Rattle.timeouts.specs.declared.Timeouts.{Timeouts}
 use Rattle.text.specs.Lines.{decimal, ended, countsOf, lineOf, refusedLine, lineMost}
 use Rattle.words.specs.Words.{bytes, hexByte, spaced, middleOf}
-use Rattle.text.specs.Private.{indexMost, middleBytes, countMost, countsMost}
+use Rattle.text.specs.Lines.{indexMost, countMost, countsMost}
+use Rattle.words.specs.Words.{middleBytes}
 use Rattle.text.proofs.Decimal.{at-most}
 
 -- ---- numbers: what the digits take, and with a space or the end of the line after them

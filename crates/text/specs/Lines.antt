@@ -1,5 +1,5 @@
 -- Document 01, "The replay program": the text of its lines, as bytes.
-use Prim.Native.Nat.{ℕ, zero, suc, _+_, _/_, _%_, _≤_}
+use Prim.Native.Nat.{ℕ, zero, suc, _+_, _/_, _%_, _≤_, _*_}
 use Prim.Native.Char.{code}
 use mathlib.Core.Path.{_≡_}
 use mathlib.Core.Bool.{Bool, cond}
@@ -7,7 +7,7 @@ use mathlib.Core.List.{List, [], _∷_, _++_}
 use lib.Dec.{ltb}
 use lib.ListN.{length, take, drop}
 use Rattle.events.specs.declared.Answer.{Answer}
-use Rattle.words.specs.Words.{bytes, digit, spaced, middleOf}
+use Rattle.words.specs.Words.{bytes, digit, spaced, middleBytes, middleOf}
 use Rattle.timeouts.specs.declared.Timeouts.{Timeouts}
 
 -- ---- numbers
@@ -38,10 +38,21 @@ lineOf index a irq outputs n = spaced (decimal index) ++ (middleOf a irq outputs
 unfoldable pub refusedLine : ℕ → ℕ → List ℕ
 refusedLine number index = spaced (bytes "refused") ++ (spaced (decimal number) ++ ended (decimal index))
 
--- ---- sizes
--- a buffer of so many bytes holds every line
+-- ---- the sizes of a line's parts
+-- an index, at most 65,535, and the byte after it
+abbrev pub indexMost : ℕ
+indexMost = 5 + 1
+
+-- a count, at most 4,294,967,295, and the byte after it
+abbrev pub countMost : ℕ
+countMost = 10 + 1
+
+abbrev pub countsMost : ℕ
+countsMost = 4 * countMost
+
+-- a buffer of so many bytes, 64, holds every line: its parts, and two bytes to spare
 abbrev pub lineMost : ℕ
-lineMost = 64
+lineMost = indexMost + middleBytes + countsMost + 2
 
 -- ---- a line in a buffer
 -- a line at the start of a buffer, the rest as it was; a buffer of fewer than `lineMost` bytes stays as it was

@@ -3,15 +3,22 @@
 // was.
 use events::Answer;
 use timeouts::Timeouts;
+use words::MIDDLE_BYTES;
 ghost use mathlib.Core.Path.{_≡_};
 ghost use mathlib.Core.List.{[], _∷_, _++_};
 ghost use Prim.Native.Nat.{_+_, _≤_, _<_};
 ghost use lib.ListN.{length};
 ghost use Rattle.text.specs.Lines.{decimal, countsOf, lineOf, refusedLine, written, writtenLength, Counts};
-ghost use Rattle.text.specs.Private.{Puts, countsMost};
+ghost use Rattle.text.specs.Lines.{countsMost};
+ghost use Rattle.text.specs.Private.{Puts};
 
-// The bytes of a buffer that holds every line.
-pub const LINE_MOST: usize = 64;
+// The most bytes of an index and of the four counts, each with the byte after it.
+const INDEX_MOST: usize = 5 + 1;
+
+const COUNTS_MOST: usize = 4 * (10 + 1);
+
+// The bytes of a buffer that holds every line: its parts, and two to spare.
+pub const LINE_MOST: usize = INDEX_MOST + MIDDLE_BYTES + COUNTS_MOST + 2;
 
 // Puts text at index `at`, and returns the index after it.
 fn put(out: &mut [u8], at: usize, text: &[u8]) -> usize

@@ -19,7 +19,8 @@ use Rattle.tape.specs.Tapes.{tapeMost, fitting, records}
 use Rattle.checks.specs.Checks.{firstBad}
 use Rattle.checks.specs.Checks.{returned, afterRecords, tapeResult}
 use Rattle.checks.proofs.Checks.{index-below}
-use Rattle.transcript.specs.Transcript.{recordsMost, answersMost, codeOf}
+use Rattle.transcript.specs.Transcript.{recordsMost, codeOf}
+use Rattle.transcript.specs.Private.{answersMost}
 
 number-low : (r : Refusal) → numberOf r < 10
 number-low ImageLength = lit< tt

@@ -18,7 +18,8 @@ use Rattle.checks.specs.Checks.{firstBad}
 use Rattle.checks.specs.Checks.{tapeResult}
 use Rattle.checks.proofs.Checks.{passed}
 use Rattle.demands.proofs.Accepted.{fresh-keeps-the-rule}
-use Rattle.transcript.specs.Transcript.{recordsMost, answersMost, enough, linesOf, codeOf, transcriptOf, printed, printedLength}
+use Rattle.transcript.specs.Transcript.{recordsMost, enough, linesOf, codeOf, transcriptOf, printed, printedLength}
+use Rattle.transcript.specs.Private.{answersMost}
 use Rattle.transcript.proofs.Codes.{room-enough, code-low}
 
 -- what a call owes of its result and of the buffer

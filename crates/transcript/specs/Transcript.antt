@@ -20,11 +20,7 @@ use Rattle.checks.specs.Checks.{tapeResult}
 abbrev pub recordsMost : ℕ
 recordsMost = tapeMost / recordBytes
 
--- room for their answers
-abbrev pub answersMost : ℕ
-answersMost = answerBytes * recordsMost
-
--- and for their lines: a buffer of so many bytes, 32,768, holds every transcript
+-- room for their lines: a buffer of so many bytes, 32,768, holds every transcript
 abbrev pub enough : ℕ
 enough = recordsMost * lineMost
 

@@ -51,6 +51,10 @@ abbrev pub outputsText : ℕ → List ℕ
 outputsText o = digit (o % 2) ∷ digit (o / 2 % 2) ∷ digit (o / 4 % 2) ∷ digit (o / 8 % 2) ∷ []
 
 -- ---- together
+-- the bytes of the words below, each with its space
+abbrev pub middleBytes : ℕ
+middleBytes = 2 + 3 + 2 + 5
+
 -- a word with a space after it
 abbrev pub spaced : List ℕ → List ℕ
 spaced w = w ++ (code " " ∷ [])

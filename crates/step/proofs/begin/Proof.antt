@@ -2,7 +2,7 @@
 use mathlib.Core.Path.{_≡_, sym, ap, _∙_}
 use borrow.Author.Needs.{needs}
 use Rattle.step.specs.Private.{finished}
-use Rattle.step.specs.Events.{stepOf}
+use Rattle.step.specs.Events.{stepOf, effectOf}
 use Rattle.device.specs.Whole.{withInterrupts}
 use Rattle.device.specs.Signals.{done, signalStep}
 use Rattle.device.specs.declared.Stepped.{Stepped}
@@ -22,23 +22,23 @@ did : (d : Device) (e f : Event) → e ≡ f → {s : Stepped} → s ≡ stepOf 
 did d e f p q = q ∙ ap (stepOf d) (sym p)
 
 returns : tie.Need-returns
-unfolding stepOf
+unfolding effectOf
 returns c = did (c .before .before .before .before .before .before .args .d) (c .before .before .before .before .before .before .args .e) _ (c .before .before .enum-told .given .1) (ap (λ (b : Begun). finished b (c .before .before .before .before .before .before .args .d)) (c .done-with .ensures) ∙ ap done (c .before .reset .ensures))
 
 returns-2 : tie.Need-returns-2
-unfolding stepOf
+unfolding effectOf
 returns-2 c = did (c .before .before .before .before .before .before .before .before .args .d) (c .before .before .before .before .before .before .before .before .args .e) _ (c .before .before .before .before .e .given .1) (ap (λ (b : Begun). finished b (c .before .before .before .before .before .before .before .before .args .d)) (c .whole .ensures) ∙ (λ k. record { device = c .before .before .before .before .before .before .before .before .args .d; answer = Data (c .before .before .read .ensures k); timeouts = c .before .zero .ensures k }))
 
 returns-3 : tie.Need-returns-3
-unfolding stepOf
+unfolding effectOf
 returns-3 c = did (c .before .before .before .before .before .before .args .d) (c .before .before .before .before .before .before .args .e) _ (c .before .before .e2 .given .1) (c .begin-write .ensures)
 
 returns-4 : tie.Need-returns-4
-unfolding stepOf
+unfolding effectOf
 returns-4 c = did (c .before .before .before .before .before .before .args .d) (c .before .before .before .before .before .before .args .e) _ (c .before .before .e3 .given .1) (ap (λ l. signalStep l (c .before .before .before .before .before .before .args .d)) (c .with-level .ensures))
 
 returns-5 : tie.Need-returns-5
-unfolding stepOf
+unfolding effectOf
 returns-5 c = did (c .before .before .before .before .before .before .args .d) (c .before .before .before .before .before .before .args .e) _ (c .before .before .e4 .given .1) (ap (λ l. signalStep l (c .before .before .before .before .before .before .args .d)) (c .with-input .ensures))
 
 returns-6 : tie.Need-returns-6
@@ -48,7 +48,7 @@ returns-7 : tie.Need-returns-7
 returns-7 c = did (c .before .before .before .before .before .before .args .d) (c .before .before .before .before .before .before .args .e) _ (c .before .before .e6 .given .1) (c .begin-acknowledge .ensures)
 
 returns-8 : tie.Need-returns-8
-unfolding stepOf raisedBy
+unfolding effectOf raisedBy
 returns-8 c = did (c .before .before .before .before .before .before .before .before .args .d) (c .before .before .before .before .before .before .before .before .args .e) _ (c .before .before .before .before .e7 .given .1) (ap (λ (b : Begun). finished b (c .before .before .before .before .before .before .before .before .args .d)) (c .done-with2 .ensures) ∙ ap (λ i. done (withInterrupts i (c .before .before .before .before .before .before .before .before .args .d))) (c .before .raise .ensures ∙ ap (λ (s : ℕ). raised s (c .before .before .before .before .before .before .before .before .args .d .interrupts)) (c .before .before .set-of .ensures ∙ sym (or-zero-r _))))
 
 pub begin-spec : {M : Type 1} → statement M

@@ -3,13 +3,13 @@ use mathlib.Core.Path.{ap, _∙_}
 use borrow.Author.Needs.{needs}
 use Rattle.step.specs.Private.{finished}
 use Rattle.step.specs.declared.Begun.{Begun}
-use Rattle.step.specs.Events.{replied, stepOf}
+use Rattle.step.specs.Events.{replied, effectOf}
 use Rattle.device.specs.Whole.{withInterrupts}
 use Rattle.step.proofs.begin_acknowledge.Statement.{statement}
 use Rattle.step.proofs.begin_acknowledge.Tie as tie
 
 returns : tie.Need-returns
-unfolding stepOf
+unfolding effectOf
 returns c =
     let d = c .before .before .before .before .before .before .args .d in
     ap (λ (b : Begun). finished b d) (c .whole .ensures) ∙ (λ k. record {

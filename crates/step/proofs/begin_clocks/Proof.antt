@@ -4,7 +4,7 @@ use borrow.Author.Needs.{needs}
 use Rattle.step.proofs.Clocks.{spanTimers, spanTimeouts, timeouts-each, clocks-each}
 use Rattle.step.specs.Private.{finished}
 use Rattle.step.specs.declared.Begun.{Begun}
-use Rattle.step.specs.Events.{stepOf}
+use Rattle.step.specs.Events.{effectOf}
 use Rattle.device.specs.declared.Device.{Device}
 use Rattle.events.specs.declared.Answer.the-variants.{Done}
 use Rattle.timeouts.specs.Clocks.{timeoutRaises, clockedBy}
@@ -17,7 +17,7 @@ use Rattle.step.proofs.begin_clocks.Statement.{statement}
 use Rattle.step.proofs.begin_clocks.Tie as tie
 
 returns : tie.Need-returns
-unfolding stepOf
+unfolding effectOf
 returns c =
     let a = c .before .before .before .before .before .before .before .before .before .before .before .args in
     let d = a .d in

@@ -3,7 +3,7 @@ use Prim.Native.Nat.{_≤_}
 use native.Mathlib.Omega.{arith}
 use lib.ListN.{length}
 use Rattle.text.specs.Lines.{lineOf, lineMost}
-use Rattle.text.specs.Private.{indexMost}
+use Rattle.text.specs.Lines.{indexMost}
 use Rattle.text.proofs.Sizes.{Takes, index-takes, line-fits}
 use Rattle.text.proofs.Stores.{puts-append}
 use Rattle.text.proofs.Whole.{short, long}

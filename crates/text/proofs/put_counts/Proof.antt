@@ -1,7 +1,7 @@
 -- `text::put_counts` meets its contract: four numbers, each where the last one ends. Assumes nothing.
 use native.Mathlib.Omega.{arith}
 use Rattle.text.specs.Lines.{countsOf}
-use Rattle.text.specs.Private.{countMost}
+use Rattle.text.specs.Lines.{countMost}
 use Rattle.text.proofs.Sizes.{Takes, count-takes}
 use Rattle.text.proofs.Stores.{puts-append}
 use borrow.Author.Needs.{needs}

@@ -1,7 +1,7 @@
 -- `text::refused` meets its contract: the word and two numbers. Assumes nothing.
 use native.Mathlib.Omega.{arith}
 use Rattle.text.specs.Lines.{refusedLine}
-use Rattle.text.specs.Private.{indexMost}
+use Rattle.text.specs.Lines.{indexMost}
 use Rattle.text.proofs.Sizes.{Takes, index-takes, refused-fits}
 use Rattle.text.proofs.Stores.{puts-append}
 use Rattle.text.proofs.Whole.{short, long}

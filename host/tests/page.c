@@ -246,6 +246,9 @@ static void dozing(void)
     start_timer(&p);
     p.owed = 24;
     expect("awake by what was owed", doze(&p, 1000) == 0 && memcmp(p.image, q.image, sizeof p.image) == 0);
+    start_timer(&p);
+    p.owed = 17;
+    expect("what was owed counts", doze(&p, 1000) == 0 && memcmp(p.image, q.image, sizeof p.image) == 0);
 }
 
 int main(void)

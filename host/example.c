@@ -25,7 +25,7 @@ static void must(uint32_t code)
 /* One record, a tape of its own; what mfp_run returns. */
 static uint32_t play(uint8_t *image, const uint8_t *record, uint8_t *answer)
 {
-    return mfp_run(image, MFP_IMAGE_BYTES, record, MFP_RECORD_BYTES, answer, MFP_ANSWER_BYTES);
+    return mfp_call(image, record, MFP_RECORD_BYTES, answer, MFP_ANSWER_BYTES);
 }
 
 static void set_up(uint8_t *image)
@@ -41,13 +41,13 @@ static void set_up(uint8_t *image)
     end = mfp_put_write(end, MFP_IMRB, 0xA0);  /* and not masked */
     end = mfp_put_write(end, MFP_TCDR, 6);     /* six count pulses a timeout */
     end = mfp_put_write(end, MFP_TCDCR, 0x10); /* timer C, a count pulse every 4 clocks */
-    must(mfp_run(image, MFP_IMAGE_BYTES, tape, (size_t)(end - tape), answers, sizeof answers));
+    must(mfp_call(image, tape, (size_t)(end - tape), answers, sizeof answers));
     printf("timer C times out every 24 clocks, line 5 interrupts when it goes high\n");
 }
 
-static void clocks(uint8_t *image, uint32_t n)
+static void clocks(uint8_t *image, uint32_t n, uint8_t *answer)
 {
-    uint8_t record[MFP_RECORD_BYTES], answer[MFP_ANSWER_BYTES];
+    uint8_t record[MFP_RECORD_BYTES];
 
     mfp_put_clocks(record, n);
     must(play(image, record, answer));
@@ -55,9 +55,9 @@ static void clocks(uint8_t *image, uint32_t n)
            (unsigned long)mfp_answer_timeouts(answer, MFP_TIMER_C));
 }
 
-static void line_5(uint8_t *image, bool level)
+static void line_5(uint8_t *image, bool level, uint8_t *answer)
 {
-    uint8_t record[MFP_RECORD_BYTES], answer[MFP_ANSWER_BYTES];
+    uint8_t record[MFP_RECORD_BYTES];
 
     mfp_put_line(record, 5, level);
     must(play(image, record, answer));
@@ -73,9 +73,9 @@ static void acknowledge(uint8_t *image, uint8_t *answer)
 }
 
 /* End of service: a 0 clears the channel's bit, the 1s leave the others. */
-static void end_service(uint8_t *image, unsigned channel)
+static void end_service(uint8_t *image, unsigned channel, uint8_t *answer)
 {
-    uint8_t record[MFP_RECORD_BYTES], answer[MFP_ANSWER_BYTES];
+    uint8_t record[MFP_RECORD_BYTES];
 
     mfp_put_write(record, MFP_ISRB, 0xFFu ^ 1u << channel);
     must(play(image, record, answer));
@@ -93,19 +93,20 @@ static const char *channel_name(unsigned channel)
     }
 }
 
-/* Acknowledge until no channel requests any more. */
-static void serve(uint8_t *image)
+/*
+ * Serve while IRQ is asserted after the last event, whose answer comes in and
+ * goes out. An acknowledge then gives a vector.
+ */
+static void serve(uint8_t *image, uint8_t *answer)
 {
-    uint8_t answer[MFP_ANSWER_BYTES];
+    while (mfp_answer_irq(answer)) {
+        unsigned vector, channel;
 
-    acknowledge(image, answer);
-    while (mfp_answer_class(answer) == MFP_VECTOR) {
-        unsigned vector = mfp_answer_value(answer);
-        unsigned channel = vector & 15u;
-
-        printf("  vector %02X: %s\n", vector, channel_name(channel));
-        end_service(image, channel);
         acknowledge(image, answer);
+        vector = mfp_answer_value(answer);
+        channel = vector & 15u;
+        printf("  vector %02X: %s\n", vector, channel_name(channel));
+        end_service(image, channel, answer);
     }
     printf("  nothing more to serve\n");
 }
@@ -123,22 +124,22 @@ static void show_refusal(uint8_t *image)
 
 int main(void)
 {
-    uint8_t image[MFP_IMAGE_BYTES];
+    uint8_t image[MFP_IMAGE_BYTES], answer[MFP_ANSWER_BYTES];
     int i;
 
     set_up(image);
     for (i = 0; i < 3; i++) {
-        clocks(image, 10);
-        serve(image);
+        clocks(image, 10, answer);
+        serve(image, answer);
     }
-    line_5(image, true);
-    serve(image);
-    line_5(image, false);
-    clocks(image, 20);
-    line_5(image, true);
-    serve(image);
-    clocks(image, 4294967295u);
-    serve(image);
+    line_5(image, true, answer);
+    serve(image, answer);
+    line_5(image, false, answer);
+    clocks(image, 20, answer);
+    line_5(image, true, answer);
+    serve(image, answer);
+    clocks(image, 4294967295u, answer);
+    serve(image, answer);
     show_refusal(image);
     return EXIT_SUCCESS;
 }

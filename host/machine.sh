@@ -71,11 +71,21 @@ install_missing() {
     fi
 }
 
-# unpack_apart: the folder is there once all of it is.
+# unpack_apart: the folder is there once all of it is; if it fails, nothing is.
 unpack_apart() {
-    local part debs deb
-    mkdir -p "$(dirname "$apart")" && part=$(mktemp -d "$apart.XXXXXX") && debs=$part/debs && mkdir "$debs" &&
+    local part
+    mkdir -p "$(dirname "$apart")" && part=$(mktemp -d "$apart.XXXXXX") &&
+        if ! { unpack_into "$part" && mv -T "$part" "$apart"; }; then
+            rm -rf "$part"
+            return 1
+        fi
+}
+
+# unpack_into FOLDER
+unpack_into() {
+    local debs=$1/debs deb
+    mkdir "$debs" &&
         (cd "$debs" && apt-get download -qq -o APT::Sandbox::User=root "${missing_apart[@]}") &&
-        for deb in "$debs"/*.deb; do dpkg-deb -x "$deb" "$part" || return; done &&
-        rm -r "$debs" && mv -T "$part" "$apart"
+        for deb in "$debs"/*.deb; do dpkg-deb -x "$deb" "$1" || return; done &&
+        rm -r "$debs"
 }

@@ -25,8 +25,9 @@ pub fn encode_bytes(input: &[u8]) -> Result<Vec<u8>, String> {
     let mut tape = Vec::new();
     for (index, line) in input.split(|byte| *byte == b'\n').enumerate() {
         let said = |wrong: String| format!("line {}: {wrong}", index + 1);
-        if index == 0 && line.starts_with(&BYTE_ORDER_MARK) {
-            let wrong = "the text opens with a byte order mark (EF BB BF): save it without one";
+        // Also within a text, where files were put together.
+        if line.starts_with(&BYTE_ORDER_MARK) {
+            let wrong = "the line opens with a byte order mark (EF BB BF): save it without one";
             return Err(said(wrong.to_string()));
         }
         if let Some(event) = text_of(line).and_then(parse).map_err(said)? {
@@ -74,15 +75,14 @@ pub fn format(event: &Event) -> String {
 
 /// A line's bytes as text: UTF-8, and of the control characters tab and carriage return alone.
 fn text_of(line: &[u8]) -> Result<&str, String> {
-    let control = |byte: &u8| byte.is_ascii_control() && !b"\t\r".contains(byte);
-    let wrong = match std::str::from_utf8(line) {
-        Ok(text) => match line.iter().position(control) {
-            None => return Ok(text),
-            Some(at) => at,
-        },
-        Err(error) => error.valid_up_to(),
-    };
-    Err(format!("the byte {:02X} is no text", line[wrong]))
+    let text = std::str::from_utf8(line)
+        .map_err(|error| format!("the byte {:02X} is no text", line[error.valid_up_to()]))?;
+    let control = |c: &char| c.is_control() && !"\t\r".contains(*c);
+    match text.chars().find(control) {
+        None => Ok(text),
+        Some(c) if c.is_ascii() => Err(format!("the byte {:02X} is no text", u32::from(c))),
+        Some(c) => Err(format!("the character U+{:04X} is no text", u32::from(c))),
+    }
 }
 
 /// The event of a line; none if it is blank or a comment.

@@ -48,10 +48,11 @@ static void levels(void)
     expect("the first fall is seen", fall_is_seen(&p));
     expect("the same level again", event(&p, MFP_LINE, 5, 0, answer) == 0 && p.irq);
     expect("power on", power_on(&p) == 0);
-    expect("reset leaves the levels", event(&p, MFP_RESET, 0, 0, answer) == 0 &&
-                                          p.image[MFP_IMAGE_LEVELS] == 255 && fall_is_seen(&p));
+    memset(p.serial, 0x5A, sizeof p.serial);
+    expect("reset leaves the levels", reset(&p) == 0 && p.image[MFP_IMAGE_LEVELS] == 255 && fall_is_seen(&p));
+    expect("and of the serial bytes UDR's", p.serial[0] == 0 && p.serial[3] == 0 && p.serial[4] == 0x5A);
     memset(&p, 0, sizeof p);
-    mfp_fresh(p.image, sizeof p.image);
+    expect("fresh", mfp_fresh(p.image, sizeof p.image) == 0);
     expect("without power on it is lost", !fall_is_seen(&p));
 }
 
@@ -83,14 +84,43 @@ static void clocks(void)
     expect("a second of slices is a second of clocks", p.owed == TIMER_HZ && p.rest == 0);
 }
 
+/* More clocks than a record takes are given in pieces, and none is lost. */
+static void many_clocks(void)
+{
+    struct part p, q;
+    uint8_t answer[MFP_ANSWER_BYTES];
+    uint64_t cycles = 0;
+    int i;
+
+    start_timer(&p);
+    q = p;
+    for (i = 0; i < 5; i++) {
+        pass(&p, 4294967295u);
+        cycles += 4294967295u;
+    }
+    expect("no clock is lost", p.owed == cycles * TIMER_HZ / CPU_HZ && p.owed > 4294967295u);
+    for (i = 0; i < 8; i++) {
+        q.owed = p.owed / 8;
+        expect("an eighth", look(&q, answer) == 0 && q.owed == 0);
+    }
+    q.owed = p.owed % 8;
+    expect("all at once", look(&p, answer) == 0 && p.owed == 0 && p.irq);
+    expect("and in eighths", look(&q, answer) == 0 && memcmp(p.image, q.image, sizeof p.image) == 0);
+    write_register(&p, MFP_IPRB, 0);
+    p.owed = 4294967295u + 2ull;
+    expect("refused after a piece", event(&p, MFP_READ, MFP_UDR, 0, answer) == 256 + MFP_SERIAL_REGISTER);
+    expect("the rest is still owed", p.owed == 2 && p.irq);
+}
+
 static void events(void)
 {
     struct part p;
     uint8_t before[MFP_IMAGE_BYTES], answer[MFP_ANSWER_BYTES];
     uint8_t value = 0;
+    int vector = 0;
 
     start_timer(&p);
-    expect("no request yet", acknowledge(&p) == -1);
+    expect("no request yet", acknowledge(&p, &vector) == 0 && vector == -1);
     p.owed = 23;
     expect("the clocks come first", bus_read(&p, 2 * MFP_TCDR + 1, &value) == 0 && value == 1 && !p.irq);
     expect("and are given once", p.owed == 0 && bus_read(&p, 2 * MFP_TCDR + 1, &value) == 0 && value == 1);
@@ -104,10 +134,29 @@ static void events(void)
     expect("the clock is still owed", p.owed == 1);
     expect("IEI not asserted: held", event(&p, MFP_ACKNOWLEDGE, 0, 0, answer) == 0 &&
                                          mfp_answer_class(answer) == MFP_HELD && p.irq);
-    expect("the vector of timer C", acknowledge(&p) == 0x45 && !p.irq);
+    expect("the vector of timer C", acknowledge(&p, &vector) == 0 && vector == 0x45 && !p.irq);
     write_register(&p, MFP_ISRB, 0);
     p.owed = 24;
-    expect("IRQ is that after the event", acknowledge(&p) == 0x45 && !p.irq);
+    expect("IRQ is that after the event", acknowledge(&p, &vector) == 0 && vector == 0x45 && !p.irq);
+}
+
+static void refusals(void)
+{
+    uint8_t image[MFP_IMAGE_BYTES], tape[MFP_RECORD_BYTES], answer[MFP_ANSWER_BYTES];
+
+    expect("fresh", mfp_fresh(image, sizeof image) == 0);
+    memset(tape, 0, sizeof tape);
+    expect("5: not filled", mfp_call(image, tape, sizeof tape, answer, sizeof answer) == MFP_BAD_RECORD_MARK);
+    mfp_put_record(tape, 8, 0, 0);
+    expect("6: kind 8", mfp_call(image, tape, sizeof tape, answer, sizeof answer) == MFP_BAD_KIND);
+    mfp_put_record(tape, MFP_LINE, 0, 2);
+    expect("7: level 2", mfp_call(image, tape, sizeof tape, answer, sizeof answer) == MFP_BAD_OPERAND);
+    mfp_put_input(tape, 2, true);
+    expect("7: input 2", mfp_call(image, tape, sizeof tape, answer, sizeof answer) == MFP_BAD_OPERAND);
+    mfp_put_record(tape, MFP_ACKNOWLEDGE, 2, 0);
+    expect("7: IEI 2", mfp_call(image, tape, sizeof tape, answer, sizeof answer) == MFP_BAD_OPERAND);
+    mfp_put_record(tape, MFP_RESET, 0, 1);
+    expect("7: an unused operand", mfp_call(image, tape, sizeof tape, answer, sizeof answer) == MFP_BAD_OPERAND);
 }
 
 static void looking(void)
@@ -131,36 +180,88 @@ static void looking(void)
     expect("no image", check(p.image, sizeof p.image) == MFP_BAD_IMAGE_MARK);
 }
 
+/* A damaged image is no answer: each function hands the code on, and the clocks are still owed. */
+static void broken(void)
+{
+    struct part p;
+    uint8_t answer[MFP_ANSWER_BYTES];
+    uint8_t value = 0x5A;
+    uint32_t n = 7;
+    bool irq = true;
+    int vector = 7;
+
+    start_timer(&p);
+    p.image[MFP_IMAGE_MODE_A] = 16;
+    p.owed = 3;
+    expect("an event", event(&p, MFP_CLOCKS, 0, 1, answer) == MFP_BAD_IMAGE);
+    expect("a read", bus_read(&p, 2 * MFP_TCDR, &value) == MFP_BAD_IMAGE && value == 0x5A);
+    expect("an acknowledge", acknowledge(&p, &vector) == MFP_BAD_IMAGE && vector == 7);
+    expect("a reset", reset(&p) == MFP_BAD_IMAGE);
+    expect("a look", look(&p, answer) == MFP_BAD_IMAGE);
+    expect("a try", irq_after(&p, 24, &irq) == MFP_BAD_IMAGE && irq);
+    expect("the clocks to IRQ", clocks_to_irq(&p, 24, &n) == MFP_BAD_IMAGE);
+    expect("a wait", doze(&p, 24) == MFP_BAD_IMAGE);
+    expect("nothing was given", p.owed == 3);
+}
+
 static void sleeping(void)
 {
     struct part p;
     uint8_t before[MFP_IMAGE_BYTES], answer[MFP_ANSWER_BYTES];
     uint32_t most = 0;
+    uint32_t n = 0;
 
     start_timer(&p);
-    expect("5 clocks", event(&p, MFP_CLOCKS, 0, 5, answer) == 0);
+    p.owed = 5;
+    expect("5 clocks", look(&p, answer) == 0 && p.owed == 0);
     memcpy(before, p.image, sizeof before);
-    while (most < 64 && clocks_to_irq(&p, most) == (most < 19 ? 0u : 19u))
+    while (most < 64 && clocks_to_irq(&p, most, &n) == 0 && n == (most < 19 ? 0u : 19u))
         most++;
     expect("19 are left", most == 64);
-    expect("19 of the longest span", clocks_to_irq(&p, 4294967295u) == 19);
+    expect("19 of the longest span", clocks_to_irq(&p, 4294967295u, &n) == 0 && n == 19);
     expect("trying changes nothing", memcmp(before, p.image, sizeof before) == 0);
     p.owed = 18;
-    expect("asleep", event(&p, MFP_CLOCKS, 0, 0, answer) == 0 && !p.irq);
+    expect("asleep", look(&p, answer) == 0 && !p.irq);
     p.owed = 1;
-    expect("awake", event(&p, MFP_CLOCKS, 0, 0, answer) == 0 && p.irq);
+    expect("awake", look(&p, answer) == 0 && p.irq);
     write_register(&p, MFP_TCDCR, 0);
     write_register(&p, MFP_IPRB, 0);
-    expect("for ever", clocks_to_irq(&p, 4294967295u) == 0);
+    expect("for ever", clocks_to_irq(&p, 4294967295u, &n) == 0 && n == 0);
+}
+
+/* A wait gives what is owed first, and ends at the clock at which IRQ is asserted. */
+static void dozing(void)
+{
+    struct part p, q;
+    uint8_t answer[MFP_ANSWER_BYTES];
+
+    start_timer(&p);
+    q = p;
+    p.owed = 17;
+    expect("too short", doze(&p, 6) == 0 && !p.irq && p.owed == 0);
+    expect("the last clock", doze(&p, 1000) == 0 && p.irq && p.owed == 0);
+    q.owed = 24;
+    expect("24 clocks in all", look(&q, answer) == 0 && memcmp(p.image, q.image, sizeof p.image) == 0);
+    expect("awake already", doze(&p, 1000) == 0 && memcmp(p.image, q.image, sizeof p.image) == 0);
+    start_timer(&p);
+    p.owed = 24;
+    expect("awake by what was owed", doze(&p, 1000) == 0 && memcmp(p.image, q.image, sizeof p.image) == 0);
+    start_timer(&p);
+    p.owed = 17;
+    expect("what was owed counts", doze(&p, 1000) == 0 && memcmp(p.image, q.image, sizeof p.image) == 0);
 }
 
 int main(void)
 {
     levels();
     clocks();
+    many_clocks();
     events();
+    refusals();
     looking();
+    broken();
     sleeping();
+    dozing();
     printf("%d passed, %d failed\n", passed, failed);
     return failed != 0;
 }

@@ -110,7 +110,7 @@ fn bytes_that_are_no_text() {
     let wrong = |input: &[u8], message: &str| {
         assert_eq!(encode_bytes(input), Err(message.to_string()), "{input:?}");
     };
-    let mark = "line 1: the text opens with a byte order mark (EF BB BF): save it without one";
+    let mark = "line 1: the line opens with a byte order mark (EF BB BF): save it without one";
     wrong(b"\xEF\xBB\xBFreset\n", mark);
     wrong(b"\xEF\xBB\xBF", mark);
     wrong(b"reset\n\n# \xFF\nack", "line 3: the byte FF is no text");
@@ -118,6 +118,11 @@ fn bytes_that_are_no_text() {
     wrong(b"r\0e\0", "line 1: the byte 00 is no text");
     wrong(b"reset\x0C", "line 1: the byte 0C is no text");
     wrong(b"reset \x7F", "line 1: the byte 7F is no text");
+    wrong(
+        b"ack\nreset \xC2\x85",
+        "line 2: the character U+0085 is no text",
+    );
+    wrong(b"reset\n\xEF\xBB\xBFreset", &mark.replace('1', "2"));
     // The first wrong line is named, whatever is wrong with it.
     let expected = "expected reset, read, write, line, input, clocks, ack or raise";
     wrong(b"halt\n\xFF", &format!("line 1: `halt`: {expected}"));

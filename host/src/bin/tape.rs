@@ -6,8 +6,13 @@
 #![forbid(unsafe_code)]
 
 use mfp_host::text;
+use std::fs::File;
 use std::io::{Read, Write};
+use std::os::fd::AsFd;
 use std::process::ExitCode;
+
+/// The longest input. A tape has at most 4,096 bytes; a text may have comments.
+const MOST: usize = 1 << 20;
 
 const USAGE: &str = "\
 usage: tape encode < in.txt > out.tape
@@ -63,21 +68,28 @@ fn decode(input: Vec<u8>) -> Result<Vec<u8>, String> {
     text::decode(&input).map(String::into_bytes)
 }
 
+/// By the descriptor: one that is not open for reading is an empty input to `Stdin`.
 fn read_input() -> Result<Vec<u8>, String> {
     let mut input = Vec::new();
-    match std::io::stdin().read_to_end(&mut input) {
-        Ok(_) => Ok(input),
-        Err(error) => Err(format!("the input could not be read: {error}")),
+    file(std::io::stdin())
+        .and_then(|stdin| stdin.take(MOST as u64 + 1).read_to_end(&mut input))
+        .map_err(|error| format!("the input could not be read: {error}"))?;
+    if input.len() > MOST {
+        return Err(format!("the input is longer than {MOST} bytes"));
     }
+    Ok(input)
 }
 
-/// Standard output keeps bytes back, so a write alone does not tell whether they got through.
+/// By the descriptor: one that is not open for writing takes everything from `Stdout`. A file keeps no bytes
+/// back, so a write tells whether they got through.
 fn write_output(output: Vec<u8>) -> Result<(), String> {
-    let mut stdout = std::io::stdout().lock();
-    stdout
-        .write_all(&output)
-        .and_then(|()| stdout.flush())
+    file(std::io::stdout())
+        .and_then(|mut stdout| stdout.write_all(&output))
         .map_err(|error| format!("the output could not be written: {error}"))
+}
+
+fn file(stream: impl AsFd) -> std::io::Result<File> {
+    stream.as_fd().try_clone_to_owned().map(File::from)
 }
 
 /// A message that cannot be written is lost; the status still tells.

@@ -363,8 +363,8 @@ fn costs_are_those_measured() {
     }
 }
 
-/// Of each result and each buffer lent to be written. The contracts of clients are demands, and no plain promise
-/// can be read off that of `lent::event`.
+/// Of each result and each buffer lent to be written. The contracts of clients are demands, and that of
+/// `lent::event`, off which no plain promise can be read, is in a file of its own.
 #[test]
 fn public_functions_promise_one_outcome() {
     let laws = read("crates/clients/proofs/Unique.antt");
@@ -372,6 +372,7 @@ fn public_functions_promise_one_outcome() {
     for library in libraries().iter().filter(|library| *library != "clients") {
         for (path, line) in public_functions(library) {
             if library == "lent" && path == "event" {
+                assert!(read("crates/clients/proofs/Lent.antt").contains("event.ensures-1"));
                 continue;
             }
             let name = format!("{library}-{path}")

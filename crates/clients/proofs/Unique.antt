@@ -1,5 +1,5 @@
 -- Each public function promises one outcome: its contract is an equation, or several, between what it gives or leaves and a definition. One law, and a line for each function.
--- `lent::event` alone is not here: the checker reads no plain promise off a contract over a lent record. `lent::event_by_value` is, and its proof rests on it. Assumes nothing.
+-- `lent::event` alone is not here but in Lent.antt: the checker reads no plain promise off a contract over a lent record. Assumes nothing.
 use mathlib.Core.Path.{_≡_, sym, _∙_}
 use denote.Ref.{now}
 use Rattle.clients.specs.Unique.{FixesResult, FixesBuffer}

@@ -2,6 +2,7 @@
 // bit c. The rules stand in specs/Channels.antt. A line number and a channel number are kept apart.
 // Every function is total.
 ghost use mathlib.Core.Path.{_≡_};
+ghost use Prim.Native.Nat.{ℕ, _/_, _%_, _^_, _<_};
 ghost use Rattle.channels.specs.Channels.{setOf, channelOf, half, withHalf};
 ghost use Rattle.channels.specs.Raises.{onlyIf};
 
@@ -51,14 +52,21 @@ pub fn only_if(b: bool, c: Channel) -> u16
     0
 }
 
+// The lowest channel of a register: shifted down by it, a set has the register in its low byte.
+fn lowest_of(h: Half) -> u8
+    ensures { λ r. ⌜ (r < 16) × ((s : ℕ) → s < 65536 → s / 2 ^ r % 256 ≡ half h s) ⌝ }
+{
+    match h {
+        Half::A => 8,
+        Half::B => 0,
+    }
+}
+
 // A register of a set.
 pub fn half_of(h: Half, s: u16) -> u8
     ensures { λ r. ⌜ r ≡ half h s ⌝ }
 {
-    match h {
-        Half::A => (s / 256) as u8,
-        Half::B => (s % 256) as u8,
-    }
+    ((s >> lowest_of(h)) % 256) as u8
 }
 
 // The set with a register stored.

@@ -3,7 +3,7 @@
 use Prim.Native.Nat.{ℕ, zero, suc, _+_, _-_, _*_, _/_, _%_, _≤_, _<_}
 use mathlib.Core.Path.{_≡_, refl, sym, ap, _∙_}
 use mathlib.Core.Bool.{Bool, true, false, cond}
-use native.Mathlib.Nat.{mod-eq-sub-mod, div-eq-sub-div, div-eq-of-lt, mod-eq-of-lt, mod-lt, div-add-mod', suc-mul, add-comm, zero-add, le-refl}
+use native.Mathlib.Nat.{mod-eq-sub-mod, div-eq-sub-div, div-eq-of-lt, mod-eq-of-lt, mod-lt, div-add-mod', suc-mul, add-comm, zero-add}
 use native.Mathlib.Omega.{arith}
 use lib.Arith.{digits-div, digits-mod}
 use lib.Dec.{eqb, ltb}
@@ -19,20 +19,6 @@ unit-last period = refl
 unit-down : (period first : ℕ) → (first ≡ 1 → ⊥) → unit period first ≡ first - 1
 unfolding unit
 unit-down period first h = rw (ne-eqb first 1 h)
-
--- it never exceeds its period again
-unit-le : (period first : ℕ) → first ≤ period → unit period first ≤ period
-unfolding unit
-unit-le period first h = go (eqb first 1)
-  where
-    go : (b : Bool) → cond b period (first - 1) ≤ period
-    go true = le-refl period
-    go false = omega arith
-
-pub left-le : (period n first : ℕ) → first ≤ period → left period n first ≤ period
-unfolding left
-left-le period zero first h = h
-left-le period (suc n) first h = left-le period n (unit period first) (unit-le period first h)
 
 -- ---- while it has not run out
 pub left-before : (period n first : ℕ) → n < first → left period n first ≡ first - n

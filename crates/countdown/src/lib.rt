@@ -3,7 +3,7 @@
 // specs/Countdown.antt.
 use timer::Timer;
 ghost use mathlib.Core.Path.{_≡_};
-ghost use Prim.Native.Nat.{_≤_};
+ghost use Prim.Native.Nat.{_-_, _≤_};
 ghost use Rattle.timer.specs.Timers.{divisor, clocks, timeouts};
 ghost use Rattle.countdown.specs.Countdown.{left, ranOut, span, toGo, toggled, pulsesIn, positionAfter, timeoutsIn, counterAfter};
 
@@ -31,30 +31,9 @@ struct Down {
     counter: u8,
 }
 
-// n units of a countdown that has `first` units left and starts anew from `period`, where it has no
-// more than that left. This one and `count` divide whatever n is: a long span costs what a short one
-// costs.
-fn count_within(first: u32, period: u32, n: u32) -> Counted
-    requires { ⌜ 1 ≤ first ⌝ }
-    requires { ⌜ first ≤ period ⌝ }
-    ensures { λ r. ⌜ (r .times ≡ ranOut period n first) × (r .left ≡ left period n first) ⌝ }
-{
-    let whole = n / period;
-    let rest = n % period;
-    if rest < first {
-        return Counted {
-            times: whole,
-            left: first - rest,
-        };
-    }
-    Counted {
-        times: whole + 1,
-        left: period - (rest - first),
-    }
-}
-
-// The same of any countdown, reckoned as if it had set out a period earlier. One that has more than its
-// period left may not have come that far.
+// n units of a countdown that has `first` units left and starts anew from `period`, reckoned as if it had
+// set out a period earlier. One that has more than its period left may not have come that far. It divides
+// whatever n is, as `go_along` does: a long span costs what a short one costs.
 fn count(first: u32, period: u32, n: u32) -> Counted
     requires { ⌜ 1 ≤ first ⌝ }
     requires { ⌜ 1 ≤ period ⌝ }
@@ -86,15 +65,16 @@ fn span_of(v: u8) -> u32
     v as u32
 }
 
-// The clocks from position p to the next count pulse.
-fn to_go(d: u32, p: u8) -> u32
-    ensures { λ r. ⌜ r ≡ toGo d p ⌝ }
+// The clocks of a period of d that have gone by at position p.
+fn gone(d: u32, p: u8) -> u32
+    requires { ⌜ 1 ≤ d ⌝ }
+    ensures { λ r. ⌜ r ≡ d - toGo d p ⌝ }
 {
     let position = p as u32;
     if position < d {
-        return d - position;
+        return position;
     }
-    1
+    d - 1
 }
 
 fn toggled_by(k: u32, output: bool) -> bool
@@ -112,10 +92,17 @@ fn go_along(t: Timer, n: u32) -> Along
     ensures { λ r. ⌜ (r .pulses ≡ pulsesIn n t) × (r .position ≡ positionAfter n t) ⌝ }
 {
     let d = timer::divisor_of(t.mode) as u32;
-    let c = count_within(to_go(d, t.position), d, n);
+    let whole = n / d;
+    let rest = n % d + gone(d, t.position);
+    if rest < d {
+        return Along {
+            pulses: whole,
+            position: rest as u8,
+        };
+    }
     Along {
-        pulses: c.times,
-        position: ((d - c.left) % 256) as u8,
+        pulses: whole + 1,
+        position: (rest - d) as u8,
     }
 }
 

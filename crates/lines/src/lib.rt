@@ -73,23 +73,35 @@ impl Lines {
         }
     }
 
+    // Written out (D87).
     pub fn write(self, r: LineRegister, v: u8) -> Lines
         ensures { λ l. ⌜ l ≡ lineWritten r v self ⌝ }
     {
-        let mut l = self;
         match r {
-            LineRegister::Gpdr => {
-                l.gpdr = v;
-                l
-            }
-            LineRegister::Aer => {
-                l.aer = v;
-                l
-            }
-            LineRegister::Ddr => {
-                l.ddr = v;
-                l
-            }
+            LineRegister::Gpdr => Lines {
+                gpdr: v,
+                aer: self.aer,
+                ddr: self.ddr,
+                levels: self.levels,
+                tai: self.tai,
+                tbi: self.tbi,
+            },
+            LineRegister::Aer => Lines {
+                gpdr: self.gpdr,
+                aer: v,
+                ddr: self.ddr,
+                levels: self.levels,
+                tai: self.tai,
+                tbi: self.tbi,
+            },
+            LineRegister::Ddr => Lines {
+                gpdr: self.gpdr,
+                aer: self.aer,
+                ddr: v,
+                levels: self.levels,
+                tai: self.tai,
+                tbi: self.tbi,
+            },
         }
     }
 

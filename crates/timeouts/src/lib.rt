@@ -99,10 +99,17 @@ pub fn clocks(t: Timers, tai: bool, tbi: bool, n: u32) -> Advanced
     }
 }
 
-// One count pulse of A, of B, of both or of none.
+// One count pulse of A, of B, of both or of none, which most changes of signals are: then nothing is worked
+// out.
 pub fn count(t: Timers, a: bool, b: bool) -> Advanced
     ensures { λ r. ⌜ r ≡ pulsedBy a b t ⌝ }
 {
+    if !a && !b {
+        return Advanced {
+            timers: t,
+            timeouts: Timeouts::zero(),
+        };
+    }
     let of_a = t.a;
     let of_b = t.b;
     let of_c = t.c;

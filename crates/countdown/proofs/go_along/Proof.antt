@@ -1,53 +1,95 @@
 -- `countdown::go_along` meets its contract: the clocks to go are a countdown from the divisor. Assumes nothing.
-use Prim.Native.Nat.{ℕ, _-_, _≤_, _<_, _%_}
-use mathlib.Core.Path.{_≡_, ap, ap₂, _∙_}
+use Prim.Native.Nat.{ℕ, _+_, _-_, _/_, _%_, _≤_, _<_}
+use mathlib.Core.Path.{_≡_, sym, ap, _∙_}
 use borrow.Author.Needs.{needs}
+use native.Mathlib.Nat.{mod-lt, div-add-mod', le-mul-of-pos-right}
 use native.Mathlib.Omega.{arith}
-use native.Mathlib.Nat.{mod-eq-of-lt, lt-of-le-of-lt, sub-le}
 use Rattle.countdown.specs.Countdown.{left, ranOut, toGo, pulsesIn, positionAfter}
-use Rattle.countdown.proofs.Countdowns.{left-le}
+use Rattle.countdown.proofs.Countdowns.{left-few, times-few, left-more, times-more}
 use Rattle.countdown.proofs.AtOnce.{toGo-bounds}
 use Rattle.countdown.proofs.go_along.Statement.{statement}
 use Rattle.countdown.proofs.go_along.Tie as tie
 
-divisor-of-requires : tie.Need-divisor-of-requires
-divisor-of-requires c κs = search needs
+-- n clocks by the whole periods of d and the rest of n, from a position at which g clocks of a period have gone by
+module _ (n p d g : ℕ) (q : 1 ≤ d) (f : g ≡ d - toGo d p) where
+  abbrev pulses : ℕ → ℕ
+  pulses e = ranOut e n (toGo e p)
 
-cast-d : tie.Need-cast-d
-cast-d c = search needs
+  abbrev position : ℕ → ℕ
+  position e = e - left e n (toGo e p)
 
-to-go-requires : tie.Need-to-go-requires
-to-go-requires c κs = search needs
+  -- the rest stays in its period
+  within : n % d + g < d → (n / d ≡ pulses d) × (n % d + g ≡ position d)
+  within h =
+      let (a, b) = toGo-bounds d p q in
+      let l : n % d < toGo d p = omega arith in
+      (sym (times-few d n (toGo d p) a b l), rw (left-few d n (toGo d p) a b l) (omega arith))
 
--- the divisor as read, the clocks to go from it and what is left of them
-within : (n p d first l : ℕ) → 1 ≤ d → first ≡ toGo d p → l ≡ left d n first → l ≤ d
-within n p d first l q e f = rw (f, e) (left-le d n (toGo d p) (toGo-bounds d p q .1))
+  -- or ends it
+  beyond : d ≤ n % d + g → (n / d + 1 ≡ pulses d) × (n % d + g - d ≡ position d)
+  beyond h =
+      let (a, b) = toGo-bounds d p q in
+      let l : toGo d p ≤ n % d = omega arith in
+      let k = mod-lt n {m = d} q in
+      (sym (times-more d n (toGo d p) a b l), rw (left-more d n (toGo d p) a b l) (omega arith))
 
-count-within-requires : tie.Need-count-within-requires
-count-within-requires c κs =
-    let d : 1 ≤ c .before .divisor-of .result = rw (c .before .divisor-of .ensures) (c .before .before .pre) in
-    (rw (c .to-go .ensures) (toGo-bounds _ _ d .0), rw (c .to-go .ensures) (toGo-bounds _ _ d .1))
+-- the divisor that was read
+least : (d e : ℕ) → d ≡ e → 1 ≤ e → 1 ≤ d
+least d e h q = omega arith
 
-sub-t6 : tie.Need-sub-t6
-sub-t6 c =
-    within (c .before .before .before .before .args .n) (c .before .before .before .before .args .t .position) (c .before .before .before .divisor-of .result) (c .before .before .to-go .result) (c .before .count-within .result .left)
-    (rw (c .before .before .before .divisor-of .ensures) (c .before .before .before .before .pre)) (c .before .before .to-go .ensures) (c .before .count-within .ensures .1)
+add-rest : tie.Need-add-rest
+add-rest c =
+    let q = least _ _ (c .before .divisor-of .ensures) (c .before .before .pre) in
+    let k = mod-lt (c .before .before .args .n) {m = c .before .divisor-of .result} q in
+    let e = c .gone .ensures in
+    omega arith
 
-cast-t5 : tie.Need-cast-t5
-cast-t5 c = search needs
+add-t7 : tie.Need-add-t7
+add-t7 c =
+    let n = c .before .before .before .args .n in
+    let d = c .before .before .divisor-of .result in
+    let q = least _ _ (c .before .before .divisor-of .ensures) (c .before .before .before .pre) in
+    let (a, b) = toGo-bounds d (c .before .before .before .args .t .position) q in
+    let e = c .before .gone .ensures in
+    omega (arith, div-add-mod' n d, le-mul-of-pos-right {m = d} (n / d) q)
 
-placed : (n p d e first l : ℕ) → d < 256 → d ≡ e → first ≡ toGo d p → l ≡ left d n first → (d - l) % 256 ≡ e - left e n (toGo e p)
-placed n p d e first l h q f g = mod-eq-of-lt (lt-of-le-of-lt (sub-le d l) h) ∙ ap₂ _-_ q (g ∙ ap₂ (λ (x y : ℕ). left x n y) q (f ∙ ap (λ (x : ℕ). toGo x p) q))
+cast-t6 : tie.Need-cast-t6
+cast-t6 c =
+    let q = least _ _ (c .before .before .divisor-of .ensures) (c .before .before .before .pre) in
+    let k = mod-lt (c .before .before .before .args .n) {m = c .before .before .divisor-of .result} q in
+    let e = c .before .gone .ensures in
+    omega arith
 
 returns : tie.Need-returns
 unfolding pulsesIn positionAfter
-returns c = (
-  c .before .count-within .ensures .0
-      ∙ ap₂ (λ (d f : ℕ). ranOut d (c .before .before .before .before .args .n) f) (c .before .before .before .divisor-of .ensures)
-      (c .before .before .to-go .ensures ∙ ap (λ (d : ℕ). toGo d (c .before .before .before .before .args .t .position)) (c .before .before .before .divisor-of .ensures)),
-  placed (c .before .before .before .before .args .n) (c .before .before .before .before .args .t .position) (c .before .before .before .divisor-of .result) _ (c .before .before .to-go .result) (c .before .count-within .result .left)
-      (omega arith) (c .before .before .before .divisor-of .ensures) (c .before .before .to-go .ensures) (c .before .count-within .ensures .1),
-)
+returns c =
+    let a = c .before .before .before .args in
+    let e = c .before .before .divisor-of .ensures in
+    let q = least _ _ e (c .before .before .before .pre) in
+    let w = within (a .n) (a .t .position) _ (c .before .gone .result) q (c .before .gone .ensures) (c .if1 .taken) in
+    (w .0 ∙ ap (pulses (a .n) (a .t .position) _ (c .before .gone .result) q (c .before .gone .ensures)) e, w .1 ∙ ap (position (a .n) (a .t .position) _ (c .before .gone .result) q (c .before .gone .ensures)) e)
+
+returns-2 : tie.Need-returns-2
+unfolding pulsesIn positionAfter
+returns-2 c =
+    let a = c .before .before .before .args in
+    let e = c .before .before .divisor-of .ensures in
+    let q = least _ _ e (c .before .before .before .pre) in
+    let w = beyond (a .n) (a .t .position) _ (c .before .gone .result) q (c .before .gone .ensures) (c .if1 .left) in
+    (w .0 ∙ ap (pulses (a .n) (a .t .position) _ (c .before .gone .result) q (c .before .gone .ensures)) e, w .1 ∙ ap (position (a .n) (a .t .position) _ (c .before .gone .result) q (c .before .gone .ensures)) e)
 
 pub go-along-spec : {M : Type 1} → statement M
-go-along-spec = tie.close (tie.spec divisor-of-requires cast-d to-go-requires count-within-requires sub-t6 cast-t5 returns)
+go-along-spec =
+    tie.close
+    (tie.spec
+    (λ c κs. search needs)
+    (λ c. search needs)
+    (λ c. least _ _ (c .divisor-of .ensures) (c .before .pre))
+    (λ c. least _ _ (c .divisor-of .ensures) (c .before .pre))
+    (λ c κs. least _ _ (c .divisor-of .ensures) (c .before .pre))
+    add-rest
+    (λ c. search needs)
+    returns
+    add-t7
+    cast-t6
+    returns-2)

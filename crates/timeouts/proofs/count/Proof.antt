@@ -1,13 +1,26 @@
 -- `timeouts::count` meets its contract. Assumes nothing.
-use mathlib.Core.Path.{_∙_}
-use mathlib.Core.Bool.{cond, _&&_}
+use mathlib.Core.Path.{_≡_, ap, _∙_}
+use mathlib.Core.Bool.{Bool, true, false, not, cond, _&&_}
 use borrow.Author.Needs.{needs}
+use Rattle.timers.specs.declared.Timers.{Timers}
+use Rattle.timeouts.specs.Clocks.{none, pulsedBy}
+use Rattle.timeouts.specs.declared.Advanced.{Advanced}
+use Rattle.timeouts.specs.declared.Timeouts.{Timeouts}
 use Rattle.timeouts.proofs.count.Statement.{statement}
 use Rattle.timeouts.proofs.count.Tie as tie
 
+-- no count pulse leaves the timers
+still : (a b : Bool) (t : Timers) {n : Timeouts} → not a ≡ true → not b ≡ true → n ≡ none → _≡_ {A = Advanced} (record { timers = t; timeouts = n }) (pulsedBy a b t)
+still false false t p q e = λ k. record { timers = t; timeouts = e k }
+still true b t p q e = cc
+still false true t p q e = cc
+
 returns : tie.Need-returns
-returns c =
-    let a = c .before .before .before .before .before .before .before .before .before .before .before .before .args in
+returns c = still (c .before .before .before .args .a) (c .before .before .before .args .b) (c .before .before .before .args .t) (c .before .before .if1 .taken) (c .before .if2 .taken) (c .zero .ensures)
+
+returns-2 : tie.Need-returns-2
+returns-2 c =
+    let a = c .before .before .before .before .before .before .before .before .before .before .before .before .before .args in
     let due-a = c .before .before .before .before .before .before .both .ensures ∙ (λ k. a .a && c .before .before .before .before .before .before .before .is-due .ensures k) in
     let due-b = c .before .before .before .both2 .ensures ∙ (λ k. a .b && c .before .before .before .before .is-due2 .ensures k) in
     λ k. record {
@@ -25,6 +38,7 @@ count-spec =
     tie.close
     (tie.spec
     (λ c κs. search needs)
+    returns
     (λ c κs. search needs)
     (λ c κs. search needs)
     (λ c κs. search needs)
@@ -32,4 +46,5 @@ count-spec =
     (λ c κs. search needs)
     (λ c κs. search needs)
     (λ c κs. search needs)
-    returns)
+    (λ c κs. search needs)
+    returns-2)

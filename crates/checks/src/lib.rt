@@ -26,7 +26,7 @@ fn check_records(tape: &[u8], n: usize) -> Checked
 {
     let mut i = 0;
     while i < n {
-        let v = tape::verdict_at(tape, i * RECORD_BYTES);
+        let v = record::verdict_at(tape, i * RECORD_BYTES);
         if let Verdict::Wrong(r) = v {
             return Checked::Bad(r, i);
         }

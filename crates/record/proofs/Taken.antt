@@ -6,21 +6,20 @@ use native.Mathlib.Omega.{arith}
 use lib.Dec.{leb, eqb}
 use lib.ListN.{getD}
 use borrow.Author.Tests.{leb-true}
-use Rattle.bits.specs.Bytes.{number}
 use Rattle.channels.specs.Channels.{line, channel}
 use Rattle.lines.specs.Registers.{isLine}
 use Rattle.events.specs.declared.Event.{Event}
 use Rattle.events.specs.declared.Event.the-variants.{Read, Write, Level, Input, Raise}
 use Rattle.events.specs.declared.Refusal.the-variants.{RecordMark, Operand}
 use Rattle.events.specs.Ranges.{isSerialChannel}
-use Rattle.record.specs.declared.Raw.{Raw}
 use Rattle.selects.specs.declared.Selected.{Selected}
 use Rattle.selects.specs.declared.Selected.the-variants.{Known, SerialPort}
 use Rattle.record.specs.declared.Decoded.the-variants.{Valid}
 use Rattle.selects.specs.Selects.{readSelect, writeSelect}
-use Rattle.record.specs.Records.{recordMark0, recordMark1, reading, writing, inputOf, eventOf, operand, meant}
+use Rattle.record.specs.Records.{Raw, recordMark0, recordMark1, reading, writing, inputOf, eventOf, operand, meant}
 use Rattle.selects.specs.Selects.{knownOf}
 use Rattle.record.specs.Taken.{takenAs, taken}
+use Rattle.record.proofs.Operands.{low}
 use Rattle.record.proofs.Verdicts.{no-event, tested}
 
 one : {x e : Event} → Valid x ≡ Valid e → x ≡ e
@@ -41,26 +40,21 @@ both-right false true p = refl
 both-right false false p = p
 
 module _ (r : Raw) (e : Event) where
-  -- a number of at most a byte is its lowest byte
-  low : operand r ≤ 255 → operand r ≡ r .n0
-  unfolding number
-  low h = omega arith
-
   by-kind : (k : ℕ) → eventOf k (r .a) (operand r) ≡ Valid e → getD (takenAs r) k (Raise (channel (r .a))) ≡ e
   unfolding eventOf
   by-kind zero p = one (tested (eqb (r .a) 0 && eqb (operand r) 0) Operand p .1)
   by-kind (suc zero) p = read-one (readSelect (r .a)) e (tested (leb (r .a) 23 && eqb (operand r) 0) Operand p .1)
   by-kind (suc (suc zero)) p =
       let t = tested (leb (r .a) 23 && leb (operand r) 255) Operand p in
-      ap (Write (knownOf (writeSelect (r .a)))) (sym (low (leb-true _ _ (both-right (leb (r .a) 23) (leb (operand r) 255) (t .0))))) ∙ write-one (writeSelect (r .a)) (operand r) e (t .1)
+      ap (Write (knownOf (writeSelect (r .a)))) (sym (low r (leb-true _ _ (both-right (leb (r .a) 23) (leb (operand r) 255) (t .0))))) ∙ write-one (writeSelect (r .a)) (operand r) e (t .1)
   by-kind (suc (suc (suc zero))) p =
       let t = tested (isLine (r .a) && leb (operand r) 1) Operand p in
       let h : operand r ≤ 1 = leb-true _ _ (both-right (isLine (r .a)) (leb (operand r) 1) (t .0)) in
-      ap (λ (n : ℕ). Level (line (r .a)) (eqb n 1)) (sym (low (omega arith))) ∙ one (t .1)
+      ap (λ (n : ℕ). Level (line (r .a)) (eqb n 1)) (sym (low r (omega arith))) ∙ one (t .1)
   by-kind (suc (suc (suc (suc zero)))) p =
       let t = tested (leb (r .a) 1 && leb (operand r) 1) Operand p in
       let h : operand r ≤ 1 = leb-true _ _ (both-right (leb (r .a) 1) (leb (operand r) 1) (t .0)) in
-      ap (λ (n : ℕ). Input (inputOf (r .a)) (eqb n 1)) (sym (low (omega arith))) ∙ one (t .1)
+      ap (λ (n : ℕ). Input (inputOf (r .a)) (eqb n 1)) (sym (low r (omega arith))) ∙ one (t .1)
   by-kind (suc (suc (suc (suc (suc zero))))) p = one (tested (eqb (r .a) 0) Operand p .1)
   by-kind (suc (suc (suc (suc (suc (suc zero)))))) p = one (tested (leb (r .a) 1 && eqb (operand r) 0) Operand p .1)
   by-kind (suc (suc (suc (suc (suc (suc (suc zero))))))) p = one (tested (isSerialChannel (r .a) && eqb (operand r) 0) Operand p .1)

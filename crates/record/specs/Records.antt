@@ -1,10 +1,10 @@
 -- Document 01, "Tape and answers": what a record means, an event or refusal 5 to 8.
-use Prim.Native.Nat.{ℕ}
+use Prim.Native.Nat.{ℕ, _+_}
 use mathlib.Core.Bool.{Bool, cond, _&&_}
 use mathlib.Core.List.{List, [], _∷_}
 use lib.Dec.{leb, eqb}
 use lib.ListN.{getD}
-use Rattle.bits.specs.Bytes.{number}
+use Rattle.bits.specs.Bytes.{byte, number}
 use Rattle.channels.specs.Channels.{line, channel}
 use Rattle.lines.specs.declared.TimerInput.{TimerInput}
 use Rattle.lines.specs.declared.TimerInput.the-variants.{Tai, Tbi}
@@ -13,7 +13,6 @@ use Rattle.events.specs.declared.Event.the-variants.{Reset, Read, Write, Level,
 use Rattle.events.specs.declared.Refusal.the-variants.{RecordMark, Kind, Operand, Serial}
 use Rattle.events.specs.Ranges.{isSerialChannel}
 use Rattle.selects.specs.Selects.{readSelect, writeSelect}
-use Rattle.record.specs.declared.Raw.{Raw}
 use Rattle.selects.specs.declared.Selected.{Selected}
 use Rattle.selects.specs.declared.Selected.the-variants.{Known, SerialPort}
 use Rattle.record.specs.declared.Decoded.{Decoded}
@@ -66,6 +65,30 @@ unfoldable pub eventOf : ℕ → ℕ → ℕ → Decoded
 eventOf kind a n = getD (kinds a n) kind (Invalid Kind)
 
 -- ---- a record
+-- its eight bytes: "mark 4D 45, kind, a, then n in four bytes, high byte first"
+pub record Raw : Type 0 where
+  pub mark0 : ℕ
+  pub mark1 : ℕ
+  pub kind : ℕ
+  pub a : ℕ
+  pub n3 : ℕ
+  pub n2 : ℕ
+  pub n1 : ℕ
+  pub n0 : ℕ
+
+-- those from byte `at` of a tape on
+abbrev pub rawAt : List ℕ → ℕ → Raw
+rawAt tape at = record {
+  mark0 = byte tape at;
+  mark1 = byte tape (at + 1);
+  kind = byte tape (at + 2);
+  a = byte tape (at + 3);
+  n3 = byte tape (at + 4);
+  n2 = byte tape (at + 5);
+  n1 = byte tape (at + 6);
+  n0 = byte tape (at + 7);
+}
+
 -- n, in four bytes, high byte first
 abbrev pub operand : Raw → ℕ
 operand r = number (r .n3) (r .n2) (r .n1) (r .n0)

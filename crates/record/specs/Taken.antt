@@ -5,9 +5,8 @@ use lib.ListN.{getD}
 use Rattle.channels.specs.Channels.{line, channel}
 use Rattle.events.specs.declared.Event.{Event}
 use Rattle.events.specs.declared.Event.the-variants.{Reset, Read, Write, Level, Input, Clocks, Acknowledge, Raise}
-use Rattle.record.specs.declared.Raw.{Raw}
 use Rattle.selects.specs.Selects.{readSelect, writeSelect, knownOf}
-use Rattle.record.specs.Records.{inputOf, operand}
+use Rattle.record.specs.Records.{Raw, inputOf, operand}
 
 -- by kinds 0 to 6, and any other as 7
 abbrev pub takenAs : Raw → List Event

@@ -1,31 +1,22 @@
-// One record of a tape, by value: what the check finds of it. The rules stand in specs/Records.antt, what
-// check and run keep of them in Verdicts and Taken. Every function is total.
+// One record in the bytes of a tape: what the check finds of it. The rules stand in specs/Records.antt, what
+// check and run keep of them in Verdicts and Taken.
 use events::Event;
 use events::Refusal;
 use lines::TimerInput;
 use selects::Selected;
 ghost use mathlib.Core.Path.{_≡_};
-ghost use mathlib.Core.Bool.{cond};
-ghost use Rattle.record.specs.Records.{reading, inputOf, eventOf, meant};
+ghost use mathlib.Core.Bool.{cond, _&&_};
+ghost use Prim.Native.Nat.{_+_, _≤_};
+ghost use lib.Dec.{leb, eqb};
+ghost use lib.ListN.{length};
+ghost use Rattle.bits.specs.Bytes.{byte};
+ghost use Rattle.record.specs.Records.{recordBytes, recordMark0, recordMark1, reading, inputOf, operand, eventOf, meant, rawAt};
 ghost use Rattle.record.specs.Verdicts.{verdictOf};
 
 pub const RECORD_BYTES: usize = 8;
 
-const MARK_0: u8 = 77;
-
-const MARK_1: u8 = 69;
-
-// A record's eight bytes; n3 is the high byte of n.
-pub struct Raw {
-    pub mark0: u8,
-    pub mark1: u8,
-    pub kind: u8,
-    pub a: u8,
-    pub n3: u8,
-    pub n2: u8,
-    pub n1: u8,
-    pub n0: u8,
-}
+// 4D and 45, low byte first.
+const MARK: u16 = 77 + 256 * 69;
 
 // What a record means.
 pub enum Decoded {
@@ -71,44 +62,75 @@ fn selects(s: Selected) -> Verdict
     }
 }
 
-// Refusal 6, 7 or 8 of a record's kind and operands.
-fn verdict_of(kind: u8, a: u8, n: u32) -> Verdict
-    ensures { λ r. ⌜ r ≡ verdictOf (eventOf kind a n) ⌝ }
+// Whether the mark stands there. As one number, low byte first, the compiler takes both bytes at once.
+fn is_marked(tape: &[u8], at: usize) -> bool
+    requires { ⌜ at + recordBytes ≤ length (now tape) ⌝ }
+    ensures { λ r. ⌜ r ≡ (eqb (byte (now (tape .entry)) at) recordMark0 && eqb (byte (now (tape .entry)) (at + 1)) recordMark1) ⌝ }
 {
-    match kind {
-        0 => in_range(bits::both(a == 0, n == 0), Verdict::Sound),
+    tape[at] as u16 + tape[at + 1] as u16 * 256 == MARK
+}
+
+// Whether n is at most 255; whether it is 0; whether it is 0 or 1.
+fn is_byte(tape: &[u8], at: usize) -> bool
+    requires { ⌜ at + recordBytes ≤ length (now tape) ⌝ }
+    ensures { λ r. ⌜ r ≡ leb (operand (rawAt (now (tape .entry)) at)) 255 ⌝ }
+{
+    let high = bits::both(tape[at + 4] == 0, tape[at + 5] == 0);
+    bits::both(high, tape[at + 6] == 0)
+}
+
+fn is_zero(tape: &[u8], at: usize) -> bool
+    requires { ⌜ at + recordBytes ≤ length (now tape) ⌝ }
+    ensures { λ r. ⌜ r ≡ eqb (operand (rawAt (now (tape .entry)) at)) 0 ⌝ }
+{
+    is_byte(tape, at) && tape[at + 7] == 0
+}
+
+fn is_level(tape: &[u8], at: usize) -> bool
+    requires { ⌜ at + recordBytes ≤ length (now tape) ⌝ }
+    ensures { λ r. ⌜ r ≡ leb (operand (rawAt (now (tape .entry)) at)) 1 ⌝ }
+{
+    is_byte(tape, at) && tape[at + 7] <= 1
+}
+
+// Refusal 6, 7 or 8 of a record's kind and operands. Each kind reads what it needs.
+fn kind_verdict(tape: &[u8], at: usize) -> Verdict
+    requires { ⌜ at + recordBytes ≤ length (now tape) ⌝ }
+    ensures { λ r. ⌜ r ≡ verdictOf (eventOf (byte (now (tape .entry)) (at + 2)) (byte (now (tape .entry)) (at + 3)) (operand (rawAt (now (tape .entry)) at))) ⌝ }
+{
+    let a = tape[at + 3];
+    match tape[at + 2] {
+        0 => in_range(bits::both(a == 0, is_zero(tape, at)), Verdict::Sound),
         1 => in_range(
-            bits::both(a <= 23, n == 0),
+            bits::both(a <= 23, is_zero(tape, at)),
             selects(selects::read_select(a)),
         ),
         2 => in_range(
-            bits::both(a <= 23, n <= 255),
+            bits::both(a <= 23, is_byte(tape, at)),
             selects(selects::write_select(a)),
         ),
-        3 => in_range(bits::both(events::is_line(a), n <= 1), Verdict::Sound),
-        4 => in_range(bits::both(a <= 1, n <= 1), Verdict::Sound),
+        3 => in_range(
+            bits::both(events::is_line(a), is_level(tape, at)),
+            Verdict::Sound,
+        ),
+        4 => in_range(bits::both(a <= 1, is_level(tape, at)), Verdict::Sound),
         5 => in_range(a == 0, Verdict::Sound),
-        6 => in_range(bits::both(a <= 1, n == 0), Verdict::Sound),
+        6 => in_range(bits::both(a <= 1, is_zero(tape, at)), Verdict::Sound),
         7 => in_range(
-            bits::both(events::is_serial_channel(a), n == 0),
+            bits::both(events::is_serial_channel(a), is_zero(tape, at)),
             Verdict::Sound,
         ),
         _ => Verdict::Wrong(Refusal::Kind),
     }
 }
 
-impl Raw {
-    // What the check finds of the record: refusal 5 first.
-    pub fn verdict(self) -> Verdict
-        ensures { λ r. ⌜ r ≡ verdictOf (meant self) ⌝ }
-    {
-        if self.mark0 != MARK_0 {
-            return Verdict::Wrong(Refusal::RecordMark);
-        }
-        if self.mark1 != MARK_1 {
-            return Verdict::Wrong(Refusal::RecordMark);
-        }
-        let n = bits::number_from(self.n3, self.n2, self.n1, self.n0);
-        verdict_of(self.kind, self.a, n)
+// What the check finds of the record that starts at byte `at`: refusal 5 first.
+pub fn verdict_at(tape: &[u8], at: usize) -> Verdict
+    requires { ⌜ at + recordBytes ≤ length (now tape) ⌝ }
+    ensures { λ r. ⌜ r ≡ verdictOf (meant (rawAt (now (tape .entry)) at)) ⌝ }
+{
+    if !is_marked(tape, at) {
+        return Verdict::Wrong(Refusal::RecordMark);
     }
+    kind_verdict(tape, at)
 }

@@ -6,10 +6,10 @@ use native.Mathlib.Omega.{arith}
 use Rattle.events.specs.declared.Event.{Event}
 use Rattle.record.specs.declared.Decoded.{Decoded}
 use Rattle.record.specs.declared.Decoded.the-variants.{Valid}
-use Rattle.record.specs.Records.{recordBytes}
+use Rattle.record.specs.Records.{recordBytes, rawAt}
 use Rattle.record.specs.Taken.{taken}
 use Rattle.record.proofs.Taken.{taken-is-meant}
-use Rattle.tape.specs.Tapes.{rawAt, decoded, events·at, events}
+use Rattle.tape.specs.Tapes.{decoded, events·at, events}
 
 module _ (tape : List ℕ) (i n : ℕ) (h : i < n) where
   -- the records from the i-th on are the i-th and those after it

@@ -4,13 +4,11 @@ use mathlib.Core.Bool.{Bool, cond, _&&_}
 use mathlib.Core.List.{List, [], _∷_}
 use lib.Dec.{leb, eqb}
 use lib.ListN.{length}
-use Rattle.bits.specs.Bytes.{byte}
 use Rattle.events.specs.declared.Event.{Event}
 use Rattle.events.specs.declared.Refusal.the-variants.{TapeLength}
-use Rattle.record.specs.declared.Raw.{Raw}
 use Rattle.record.specs.declared.Decoded.{Decoded}
 use Rattle.record.specs.declared.Decoded.the-variants.{Valid, Invalid}
-use Rattle.record.specs.Records.{recordBytes, meant}
+use Rattle.record.specs.Records.{recordBytes, rawAt, meant}
 use Rattle.tape.specs.declared.Found.{Found}
 use Rattle.tape.specs.declared.Found.the-variants.{Means, Refused, PastEnd}
 
@@ -25,20 +23,7 @@ fitting tape = eqb (length tape % recordBytes) 0 && leb (length tape) tapeMost
 abbrev pub records : List ℕ → ℕ
 records tape = length tape / recordBytes
 
--- the eight bytes from byte `at` on: "mark 4D 45, kind, a, then n in four bytes, high byte first"
-abbrev pub rawAt : List ℕ → ℕ → Raw
-rawAt tape at = record {
-  mark0 = byte tape at;
-  mark1 = byte tape (at + 1);
-  kind = byte tape (at + 2);
-  a = byte tape (at + 3);
-  n3 = byte tape (at + 4);
-  n2 = byte tape (at + 5);
-  n1 = byte tape (at + 6);
-  n0 = byte tape (at + 7);
-}
-
--- what the record that starts there means
+-- what the record that starts at byte `at` means
 unfoldable pub decoded : List ℕ → ℕ → Decoded
 decoded tape at = meant (rawAt tape at)
 

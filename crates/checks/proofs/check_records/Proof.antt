@@ -1,9 +1,11 @@
 -- `checks::check_records` meets its contract. The loop's invariant: the check of all is that of the records from i on.
 -- The measure is how many are left. Assumes nothing.
-use Prim.Native.Nat.{_-_, _≤_}
+use Prim.Native.Nat.{_-_, _*_, _≤_}
 use mathlib.Core.Path.{_≡_, sym, ap, _∙_}
 use native.Mathlib.Omega.{arith}
 use borrow.Author.Needs.{needs}
+use Rattle.record.specs.Records.{recordBytes}
+use Rattle.tape.specs.Tapes.{decoded}
 use Rattle.checks.specs.Checks.{firstBad}
 use Rattle.checks.proofs.Walk.{check-bad, check-valid, check-none}
 use Rattle.record.proofs.Verdicts.{sound, wrong}
@@ -29,9 +31,11 @@ enum-known-v : tie.Need-enum-known-v Inv-loop μ-loop
 enum-known-v c = search needs
 
 returns : tie.Need-returns Inv-loop μ-loop
+unfolding decoded
 returns c =
     let a = c .before .before .before .before .before .before .before .args in
-    sym (check-bad (a .tape .now) (c .before .before .before .before .before .loop .i) (a .n) (c .before .before .before .before .loop-test .taken) _ (wrong _ _ (sym (c .before .before .before .verdict-at .ensures) ∙ c .before .v .given .1))) ∙ c .before .before .before .before .before .loop .inv .1
+    let i = c .before .before .before .before .before .loop .i in
+    sym (check-bad (a .tape .now) i (a .n) (c .before .before .before .before .loop-test .taken) _ (wrong (decoded (a .tape .now) (i * recordBytes)) _ (sym (c .before .before .before .verdict-at .ensures) ∙ c .before .v .given .1))) ∙ c .before .before .before .before .before .loop .inv .1
 
 enum-told : tie.Need-enum-told Inv-loop μ-loop
 enum-told c = search needs
@@ -43,9 +47,12 @@ loop-less : tie.Need-loop-less Inv-loop μ-loop
 loop-less c = omega arith
 
 loop-again : tie.Need-loop-again Inv-loop μ-loop
+unfolding decoded
 loop-again c =
     let a = c .before .before .before .before .before .before .args in
-    (omega arith, let v = sound _ (sym (c .before .before .verdict-at .ensures) ∙ c .enum-told .given .1) in sym (check-valid (a .tape .now) (c .before .before .before .before .loop .i) (a .n) (c .before .before .before .loop-test .taken) (v .event) (v .is)) ∙ c .before .before .before .before .loop .inv .1)
+    let i = c .before .before .before .before .loop .i in
+    let v = sound (decoded (a .tape .now) (i * recordBytes)) (sym (c .before .before .verdict-at .ensures) ∙ c .enum-told .given .1) in
+    (omega arith, sym (check-valid (a .tape .now) i (a .n) (c .before .before .before .loop-test .taken) (v .event) (v .is)) ∙ c .before .before .before .before .loop .inv .1)
 
 returns-2 : tie.Need-returns-2 Inv-loop μ-loop
 returns-2 c =

@@ -24,14 +24,15 @@ unfolding recordAt fitting
 returns-3 c = rw (eq-eqb _ _ (c .before .before .if1 .left), le-leb _ _ (c .before .if2 .left), le-leb _ _ (c .if3 .taken)) refl
 
 returns-4 : tie.Need-returns-4
-unfolding recordAt fitting
+unfolding recordAt fitting decoded
 returns-4 c = rw (eq-eqb _ _ (c .before .before .before .before .before .before .if1 .left), le-leb _ _ (c .before .before .before .before .before .if2 .left), lt-leb _ _ (c .before .before .before .before .if3 .left)) (let a = c .before .before .before .before .before .before .before .before .args in sym (ap foundIn (wrong (decoded (a .tape .now) (a .i * recordBytes)) _ (sym (c .before .before .before .verdict-at .ensures) ∙ c .before .v .given .1))))
 
 returns-5 : tie.Need-returns-5
-unfolding recordAt fitting
+unfolding recordAt fitting decoded
 returns-5 c =
-    let s = sound _ (sym (c .before .before .before .verdict-at .ensures) ∙ c .before .enum-told .given .1) in
-    rw (eq-eqb _ _ (c .before .before .before .before .before .before .if1 .left), le-leb _ _ (c .before .before .before .before .before .if2 .left), lt-leb _ _ (c .before .before .before .before .if3 .left)) (ap Means (c .event-at .ensures ∙ taken-valid _ _ (s .event) (s .is)) ∙ sym (ap foundIn (s .is)))
+    let a = c .before .before .before .before .before .before .before .before .args in
+    let s = sound (decoded (a .tape .now) (a .i * recordBytes)) (sym (c .before .before .before .verdict-at .ensures) ∙ c .before .enum-told .given .1) in
+    rw (eq-eqb _ _ (c .before .before .before .before .before .before .if1 .left), le-leb _ _ (c .before .before .before .before .before .if2 .left), lt-leb _ _ (c .before .before .before .before .if3 .left)) (ap Means (c .event-at .ensures ∙ taken-valid (a .tape .now) (a .i * recordBytes) (s .event) (s .is)) ∙ sym (ap foundIn (s .is)))
 
 pub record-at-spec : {M : Type 1} → statement M
 record-at-spec =

@@ -49,6 +49,7 @@ use Rattle.timers.proofs.Timers.outputs.Reads as timers-Timers-outputs
 use Rattle.timers.proofs.Timers.keeps_rule.Reads as timers-Timers-keeps-rule
 use Rattle.signals.proofs.input_is_active.Reads as signals-input-is-active
 use Rattle.signals.proofs.input_becomes.Reads as signals-input-becomes
+use Rattle.signals.proofs.line_raises.Reads as signals-line-raises
 use Rattle.signals.proofs.raises.Reads as signals-raises
 use Rattle.timeouts.proofs.Timeouts.zero.Reads as timeouts-Timeouts-zero
 use Rattle.timeouts.proofs.Timeouts.channels.Reads as timeouts-Timeouts-channels
@@ -67,7 +68,7 @@ use Rattle.selects.proofs.read_select.Reads as selects-read-select
 use Rattle.selects.proofs.write_select.Reads as selects-write-select
 use Rattle.selects.proofs.known.Reads as selects-known
 use Rattle.record.proofs.input_of.Reads as record-input-of
-use Rattle.record.proofs.Raw.verdict.Reads as record-Raw-verdict
+use Rattle.record.proofs.verdict_at.Reads as record-verdict-at
 use Rattle.words.proofs.middle.Reads as words-middle
 use Rattle.text.proofs.line.Reads as text-line
 use Rattle.text.proofs.refused.Reads as text-refused
@@ -75,6 +76,7 @@ use Rattle.device.proofs.Device.fresh.Reads as device-Device-fresh
 use Rattle.device.proofs.Device.reset.Reads as device-Device-reset
 use Rattle.device.proofs.Device.irq.Reads as device-Device-irq
 use Rattle.device.proofs.Device.outputs.Reads as device-Device-outputs
+use Rattle.device.proofs.Device.level.Reads as device-Device-level
 use Rattle.device.proofs.Device.signal.Reads as device-Device-signal
 use Rattle.device.proofs.Device.read.Reads as device-Device-read
 use Rattle.device.proofs.Device.keeps_rule.Reads as device-Device-keeps-rule
@@ -92,7 +94,6 @@ use Rattle.lent.proofs.event_by_value.Reads as lent-event-by-value
 use Rattle.answer.proofs.head.Reads as answer-head
 use Rattle.answer.proofs.put_answer.Reads as answer-put-answer
 use Rattle.tape.proofs.event_at.Reads as tape-event-at
-use Rattle.tape.proofs.verdict_at.Reads as tape-verdict-at
 use Rattle.tape.proofs.record_at.Reads as tape-record-at
 use Rattle.checks.proofs.check.Reads as checks-check
 use Rattle.run.proofs.run.Reads as run-run
@@ -251,6 +252,9 @@ signals-input-is-active-fixed κs a x y s t p q = one p q
 signals-input-becomes-fixed : FixesResult signals-input-becomes.Learnt
 signals-input-becomes-fixed κs a x y s t p q = one p q
 
+signals-line-raises-fixed : FixesResult signals-line-raises.Learnt
+signals-line-raises-fixed κs a x y s t p q = one p q
+
 signals-raises-fixed : FixesResult signals-raises.Learnt
 signals-raises-fixed κs a x y s t p q = one p q
 
@@ -310,8 +314,8 @@ selects-known-fixed κs a x y s t p q = one p q
 record-input-of-fixed : FixesResult record-input-of.Learnt
 record-input-of-fixed κs a x y s t p q = one p q
 
-record-Raw-verdict-fixed : FixesResult record-Raw-verdict.Learnt
-record-Raw-verdict-fixed κs a x y s t p q = one p q
+record-verdict-at-fixed : FixesResult record-verdict-at.Learnt
+record-verdict-at-fixed κs a x y s t p q = one p q
 
 -- ---- words
 words-middle-fixed : FixesResult words-middle.Learnt
@@ -342,6 +346,9 @@ device-Device-irq-fixed κs a x y s t p q = one p q
 
 device-Device-outputs-fixed : FixesResult device-Device-outputs.Learnt
 device-Device-outputs-fixed κs a x y s t p q = one p q
+
+device-Device-level-fixed : FixesResult device-Device-level.Learnt
+device-Device-level-fixed κs a x y s t p q = one p q
 
 device-Device-signal-fixed : FixesResult device-Device-signal.Learnt
 device-Device-signal-fixed κs a x y s t p q = one p q
@@ -402,9 +409,6 @@ answer-put-answer-buffer-fixed κs a x y s t p q = one p q
 -- ---- tape
 tape-event-at-fixed : FixesResult tape-event-at.Learnt
 tape-event-at-fixed κs a x y s t p q = one p q
-
-tape-verdict-at-fixed : FixesResult tape-verdict-at.Learnt
-tape-verdict-at-fixed κs a x y s t p q = one p q
 
 tape-record-at-fixed : FixesResult tape-record-at.Learnt
 tape-record-at-fixed κs a x y s t p q = one p q

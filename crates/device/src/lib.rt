@@ -1,6 +1,7 @@
 // The device by value: lines and timer inputs, interrupt controller, four timers; and what a change of
 // its signals does. The rules stand in specs/ and in the crates of the parts. Every function is total;
 // an event is crate step.
+use channels::Line;
 use events::Answer;
 use events::Register;
 use interrupts::Interrupts;
@@ -10,7 +11,8 @@ use timeouts::Timeouts;
 use timers::Timers;
 ghost use mathlib.Core.Path.{_≡_};
 ghost use Rattle.device.specs.Whole.{resetDevice, freshDevice, irqOf, shownOutputs, readOf, imageRule};
-ghost use Rattle.device.specs.Signals.{counts, signalStep};
+ghost use Rattle.device.specs.Signals.{counts, signalled, signalStep};
+ghost use Rattle.lines.specs.Registers.{withLevel};
 ghost use Rattle.lines.specs.declared.TimerInput.the-variants.{Tai, Tbi};
 
 pub struct Device {
@@ -90,7 +92,24 @@ impl Device {
         )
     }
 
-    // The signals become those of `after`, by a level event or an AER write.
+    // Line i gets this level: no timer input changes, so that only lines can raise.
+    pub fn level(self, i: Line, high: bool) -> Device
+        ensures { λ r. ⌜ r ≡ signalled (withLevel i high (self .lines)) self ⌝ }
+    {
+        let l = self.lines;
+        let q = self.interrupts;
+        let t = self.timers;
+        let a = t.a;
+        let b = t.b;
+        let after = l.with_level(i, high);
+        let raised = signals::line_raises(l, after, a.measures_pulses(), b.measures_pulses());
+        let mut next = self;
+        next.lines = after;
+        next.interrupts = q.raise(raised);
+        next
+    }
+
+    // The signals become those of `after`, by an input event or an AER write.
     pub fn signal(self, after: Lines) -> Stepped
         ensures { λ r. ⌜ r ≡ signalStep after self ⌝ }
     {

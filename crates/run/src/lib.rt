@@ -27,15 +27,7 @@ fn run_records(d: Device, tape: &[u8], answers: &mut [u8], n: usize) -> Device
         let e = tape::event_at(tape, i * RECORD_BYTES);
         let s = step::step(current, e);
         answer::put_answer(s, answers, i * ANSWER_BYTES);
-        let next = s.device;
-        let l = next.lines;
-        let q = next.interrupts;
-        let t = next.timers;
-        current = Device {
-            lines: l.written_out(),
-            interrupts: q.written_out(),
-            timers: t,
-        };
+        current = s.device;
         i += 1;
     }
     current

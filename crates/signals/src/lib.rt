@@ -94,11 +94,18 @@ fn input_ceases(l: Lines, after: Lines, i: TimerInput) -> bool
     ceases_active(input_is_active(l, i), input_is_active(after, i))
 }
 
-// The channels that are raised as the lines become `after`.
+// The channels that lines raise as the lines become `after`.
+pub fn line_raises(l: Lines, after: Lines, a: bool, b: bool) -> u16
+    ensures { λ r. ⌜ r ≡ raisedBy (linesBelow 8 (lineRaises (ofInputs a b) l after)) ⌝ }
+{
+    channels_of(raising(l, after, a, b))
+}
+
+// The channels that are raised as the lines become `after`, by lines and by inputs.
 pub fn raises(l: Lines, after: Lines, a: bool, b: bool) -> u16
     ensures { λ r. ⌜ r ≡ raisedBy (signalRaises (ofInputs a b) l after) ⌝ }
 {
-    let by_lines = channels_of(raising(l, after, a, b));
+    let by_lines = line_raises(l, after, a, b);
     let ends_a = bits::both(a, input_ceases(l, after, TimerInput::Tai));
     let ends_b = bits::both(b, input_ceases(l, after, TimerInput::Tbi));
     let by_tai = channels::only_if(ends_a, channels::channel_of(Line(4)));

@@ -1,6 +1,6 @@
 // One event of the device, by value: what it does, answers and counts. The rules stand in specs/. An
-// event is begun and then finished, so that signals change in one place. Every function is total; the
-// entry that refuses is crate lent's.
+// event is begun and then finished, so that what may change both lines and timer inputs stands in one
+// place. Every function is total; the entry that refuses is crate lent's.
 use device::Device;
 use device::Stepped;
 use events::Answer;
@@ -24,10 +24,11 @@ enum Begun {
     Whole(Stepped),
 }
 
-// An event done: the device that it leaves, written out (D87), its answer and its timeouts.
-fn whole(d: Device, a: Answer, n: Timeouts) -> Begun
-    ensures { λ r. ⌜ r ≡ Begun.Whole (record { device = d; answer = a; timeouts = n }) ⌝ }
+// An event done: what it comes to, with the device written out (D87).
+fn whole(s: Stepped) -> Begun
+    ensures { λ r. ⌜ r ≡ Begun.Whole s ⌝ }
 {
+    let d = s.device;
     let l = d.lines;
     let i = d.interrupts;
     let t = d.timers;
@@ -36,18 +37,20 @@ fn whole(d: Device, a: Answer, n: Timeouts) -> Begun
         interrupts: i.written_out(),
         timers: t,
     };
-    Begun::Whole(Stepped {
-        device: after,
-        answer: a,
-        timeouts: n,
-    })
+    let mut out = s;
+    out.device = after;
+    Begun::Whole(out)
 }
 
 // An event whose whole work is to leave this device.
 fn done_with(d: Device) -> Begun
     ensures { λ r. ⌜ r ≡ Begun.Whole (done d) ⌝ }
 {
-    whole(d, Answer::Done, Timeouts::zero())
+    whole(Stepped {
+        device: d,
+        answer: Answer::Done,
+        timeouts: Timeouts::zero(),
+    })
 }
 
 fn replied(r: Reply) -> Answer
@@ -80,7 +83,11 @@ fn begin_clocks(d: Device, n: u32) -> Begun
         interrupts: i.raise(m.channels()),
         timers: next,
     };
-    whole(after, Answer::Done, m)
+    whole(Stepped {
+        device: after,
+        answer: Answer::Done,
+        timeouts: m,
+    })
 }
 
 // A write of GPDR, AER or DDR, begun.
@@ -128,7 +135,11 @@ fn begin_acknowledge(d: Device, iei: bool) -> Begun
     let after = k.interrupts;
     let mut next = d;
     next.interrupts = after;
-    whole(next, replied(reply), Timeouts::zero())
+    whole(Stepped {
+        device: next,
+        answer: replied(reply),
+        timeouts: Timeouts::zero(),
+    })
 }
 
 // One event, begun.
@@ -139,9 +150,13 @@ fn begin(d: Device, e: Event) -> Begun
     let i = d.interrupts;
     match e {
         Event::Reset => done_with(d.reset()),
-        Event::Read(r) => whole(d, Answer::Data(d.read(r)), Timeouts::zero()),
+        Event::Read(r) => whole(Stepped {
+            device: d,
+            answer: Answer::Data(d.read(r)),
+            timeouts: Timeouts::zero(),
+        }),
         Event::Write(r, v) => begin_write(d, r, v),
-        Event::Level(k, high) => Begun::Signals(l.with_level(k, high)),
+        Event::Level(k, high) => done_with(d.level(k, high)),
         Event::Input(k, high) => Begun::Signals(l.with_input(k, high)),
         Event::Clocks(n) => begin_clocks(d, n),
         Event::Acknowledge(iei) => begin_acknowledge(d, iei),

@@ -10,9 +10,8 @@ use Rattle.device.specs.declared.Device.{Device}
 use Rattle.events.specs.declared.Event.{Event}
 use Rattle.device.specs.declared.Stepped.{Stepped}
 use Rattle.step.specs.Events.{stepOf}
-use Rattle.record.specs.Records.{recordBytes}
+use Rattle.record.specs.Records.{recordBytes, rawAt}
 use Rattle.record.specs.Taken.{taken}
-use Rattle.tape.specs.Tapes.{rawAt}
 use Rattle.tape.proofs.Tapes.{taken-valid}
 use Rattle.answer.specs.Answers.{answerBytes, answerOf}
 use Rattle.run.proofs.Going.{Going, going-begins, going-on, going-ends}
@@ -33,10 +32,10 @@ module _ (d : Device) (tape ans₀ : List ℕ) (n : ℕ) (ans : List ℕ) (at : 
 
   -- the step of the record's event, answered where it belongs
   turned : (x : Event) → x ≡ taken (rawAt tape (i * recordBytes)) → i * answerBytes + answerBytes ≤ length ans → (s : Stepped) (out : List ℕ) → s ≡ stepOf at x
-      → out ≡ take (i * answerBytes) ans ++ answerOf s ++ drop (i * answerBytes + answerBytes) ans → (next : Device) → next ≡ s .device → Going d tape ans₀ n out next (i + 1)
-  turned x w r s out q f next same =
+      → out ≡ take (i * answerBytes) ans ++ answerOf s ++ drop (i * answerBytes + answerBytes) ans → Going d tape ans₀ n out (s .device) (i + 1)
+  turned x w r s out q f =
       let k = check-fine tape i n h (g .clear) in
-      rw (f, same, q ∙ ap (stepOf at) (w ∙ taken-valid tape (i * recordBytes) (k .event) (k .is))) (going-on d tape ans₀ n ans at i g h (k .event) (k .is) r)
+      rw (f, q ∙ ap (stepOf at) (w ∙ taken-valid tape (i * recordBytes) (k .event) (k .is))) (going-on d tape ans₀ n ans at i g h (k .event) (k .is) r)
 
 loop-holds : tie.Need-loop-holds Inv-loop μ-loop
 loop-holds c = going-begins (c .before .before .args .d) (c .before .before .args .tape .now) (c .before .before .args .answers .now) (c .before .before .args .n) (c .before .before .pre .1 .1)
@@ -60,18 +59,18 @@ put-answer-requires c κs =
     fits (a .d) (a .tape .now) (a .answers .now) (a .n) (l .answers) (l .current) (l .i) (l .inv) (c .before .before .before .loop-test .taken) (c .before .before .before .before .before .before .before .pre .1 .0)
 
 add-i : tie.Need-add-i Inv-loop μ-loop
-add-i c = omega (arith, c .before .before .before .before .before .before .before .before .before .before .before .before .loop-test .taken, c .before .before .before .before .before .before .before .before .before .before .before .before .before .before .before .before .good)
+add-i c = omega (arith, c .before .before .before .before .before .before .before .loop-test .taken, c .before .before .before .before .before .before .before .before .before .before .before .good)
 
 loop-less : tie.Need-loop-less Inv-loop μ-loop
-loop-less c = omega (arith, c .before .before .before .before .before .before .before .before .before .before .before .before .loop-test .taken)
+loop-less c = omega (arith, c .before .before .before .before .before .before .before .loop-test .taken)
 
 loop-again : tie.Need-loop-again Inv-loop μ-loop
 loop-again c =
-    let a = c .before .before .before .before .before .before .before .before .before .before .before .before .before .before .before .before .args in
-    let l = c .before .before .before .before .before .before .before .before .before .before .before .before .before .loop in
-    let h = c .before .before .before .before .before .before .before .before .before .before .before .before .loop-test .taken in
-    let s = c .before .before .before .before .before .before .before .before .before .before .step .result in
-    turned (a .d) (a .tape .now) (a .answers .now) (a .n) (l .answers) (l .current) (l .i) (l .inv) h _ (c .before .before .before .before .before .before .before .before .before .before .before .event-at .ensures) (fits (a .d) (a .tape .now) (a .answers .now) (a .n) (l .answers) (l .current) (l .i) (l .inv) h (c .before .before .before .before .before .before .before .before .before .before .before .before .before .before .before .before .pre .1 .0)) s _ (c .before .before .before .before .before .before .before .before .before .before .step .ensures) (c .before .before .before .before .before .before .before .before .put-answer .ensures) _ (λ k. record { lines = c .before .written-out .ensures k; interrupts = c .written-out2 .ensures k; timers = s .device .timers })
+    let a = c .before .before .before .before .before .before .before .before .before .before .before .args in
+    let l = c .before .before .before .before .before .before .before .before .loop in
+    let h = c .before .before .before .before .before .before .before .loop-test .taken in
+    let s = c .before .before .before .before .before .step .result in
+    turned (a .d) (a .tape .now) (a .answers .now) (a .n) (l .answers) (l .current) (l .i) (l .inv) h _ (c .before .before .before .before .before .before .event-at .ensures) (fits (a .d) (a .tape .now) (a .answers .now) (a .n) (l .answers) (l .current) (l .i) (l .inv) h (c .before .before .before .before .before .before .before .before .before .before .before .pre .1 .0)) s _ (c .before .before .before .before .before .step .ensures) (c .before .before .before .put-answer .ensures)
 
 same-length : tie.Need-same-length Inv-loop μ-loop
 same-length c = c .before .loop .inv .long
@@ -94,8 +93,6 @@ run-records-spec =
     step-requires
     mul-put-answer
     put-answer-requires
-    (λ c κs. search needs)
-    (λ c κs. search needs)
     add-i
     loop-less
     loop-again

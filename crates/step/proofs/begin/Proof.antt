@@ -8,6 +8,7 @@ use Rattle.device.specs.Signals.{done, signalStep}
 use Rattle.device.specs.declared.Stepped.{Stepped}
 use Rattle.step.specs.declared.Begun.{Begun}
 use Rattle.device.specs.declared.Device.{Device}
+use Rattle.device.proofs.Levels.{level-done}
 use Rattle.events.specs.declared.Answer.the-variants.{Data}
 use Rattle.events.specs.declared.Event.{Event}
 use Rattle.interrupts.specs.Interrupts.{raised}
@@ -35,7 +36,9 @@ returns-3 c = did (c .before .before .before .before .before .before .args .d) (
 
 returns-4 : tie.Need-returns-4
 unfolding effectOf
-returns-4 c = did (c .before .before .before .before .before .before .args .d) (c .before .before .before .before .before .before .args .e) _ (c .before .before .e3 .given .1) (ap (λ l. signalStep l (c .before .before .before .before .before .before .args .d)) (c .with-level .ensures))
+returns-4 c =
+    let a = c .before .before .before .before .before .before .before .args in
+    did (a .d) (a .e) _ (c .before .before .before .e3 .given .1) (ap (λ (b : Begun). finished b (a .d)) (c .done-with2 .ensures) ∙ level-done _ _ (a .d) (c .before .level .ensures))
 
 returns-5 : tie.Need-returns-5
 unfolding effectOf
@@ -49,7 +52,7 @@ returns-7 c = did (c .before .before .before .before .before .before .args .d) (
 
 returns-8 : tie.Need-returns-8
 unfolding effectOf raisedBy
-returns-8 c = did (c .before .before .before .before .before .before .before .before .args .d) (c .before .before .before .before .before .before .before .before .args .e) _ (c .before .before .before .before .e7 .given .1) (ap (λ (b : Begun). finished b (c .before .before .before .before .before .before .before .before .args .d)) (c .done-with2 .ensures) ∙ ap (λ i. done (withInterrupts i (c .before .before .before .before .before .before .before .before .args .d))) (c .before .raise .ensures ∙ ap (λ (s : ℕ). raised s (c .before .before .before .before .before .before .before .before .args .d .interrupts)) (c .before .before .set-of .ensures ∙ sym (or-zero-r _))))
+returns-8 c = did (c .before .before .before .before .before .before .before .before .args .d) (c .before .before .before .before .before .before .before .before .args .e) _ (c .before .before .before .before .e7 .given .1) (ap (λ (b : Begun). finished b (c .before .before .before .before .before .before .before .before .args .d)) (c .done-with3 .ensures) ∙ ap (λ i. done (withInterrupts i (c .before .before .before .before .before .before .before .before .args .d))) (c .before .raise .ensures ∙ ap (λ (s : ℕ). raised s (c .before .before .before .before .before .before .before .before .args .d .interrupts)) (c .before .before .set-of .ensures ∙ sym (or-zero-r _))))
 
 pub begin-spec : {M : Type 1} → statement M
 begin-spec =
@@ -65,6 +68,7 @@ begin-spec =
     (λ c. search needs)
     (λ c κs. search needs)
     (λ c. search needs)
+    (λ c κs. search needs)
     (λ c κs. search needs)
     (λ c. search needs)
     (λ c κs. search needs)

@@ -6,11 +6,11 @@ use Rattle.step.proofs.whole.Tie as tie
 
 returns : tie.Need-returns
 returns c =
-    let a = c .before .before .before .before .before .args in
+    let s = c .before .before .before .before .before .before .args .s in
     λ k. Whole (record {
-      device = record { lines = c .before .written-out .ensures k; interrupts = c .written-out2 .ensures k; timers = a .d .timers };
-      answer = a .a;
-      timeouts = a .n;
+      device = record { lines = c .before .written-out .ensures k; interrupts = c .written-out2 .ensures k; timers = s .device .timers };
+      answer = s .answer;
+      timeouts = s .timeouts;
     })
 
 pub whole-spec : {M : Type 1} → statement M

@@ -1,0 +1,2 @@
+-- The laws of the device.
+pub mod Levels

@@ -106,8 +106,8 @@ static void many_clocks(void)
     q.owed = p.owed % 8;
     expect("all at once", look(&p, answer) == 0 && p.owed == 0 && p.irq);
     expect("and in eighths", look(&q, answer) == 0 && memcmp(p.image, q.image, sizeof p.image) == 0);
-    expect("every timeout is counted", p.timeouts[2] == cycles * TIMER_HZ / CPU_HZ / 24 && q.timeouts[2] == p.timeouts[2]);
-    expect("and no other", p.timeouts[0] == 0 && p.timeouts[1] == 0 && p.timeouts[3] == 0);
+    expect("every timeout is counted", p.timeouts[MFP_TIMER_C] == cycles * TIMER_HZ / CPU_HZ / 24 && q.timeouts[MFP_TIMER_C] == p.timeouts[MFP_TIMER_C]);
+    expect("and no other", p.timeouts[MFP_TIMER_A] == 0 && p.timeouts[MFP_TIMER_B] == 0 && p.timeouts[MFP_TIMER_D] == 0);
     write_register(&p, MFP_IPRB, 0);
     p.owed = 4294967295u + 2ull;
     expect("refused after a piece", event(&p, MFP_READ, MFP_UDR, 0, answer) == 256 + MFP_SERIAL_REGISTER);

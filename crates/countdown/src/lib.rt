@@ -65,7 +65,7 @@ fn span_of(v: u8) -> u32
     v as u32
 }
 
-// The clocks of a period of d that have gone by at position p.
+// The clocks of a period of d that have gone by at position p; at or past the divisor all but one (D77).
 fn gone(d: u32, p: u8) -> u32
     requires { ⌜ 1 ≤ d ⌝ }
     ensures { λ r. ⌜ r ≡ d - toGo d p ⌝ }

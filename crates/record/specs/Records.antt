@@ -93,6 +93,13 @@ rawAt tape at = record {
 abbrev pub operand : Raw → ℕ
 operand r = number (r .n3) (r .n2) (r .n1) (r .n0)
 
+-- what its kind and operands mean
+abbrev pub eventIn : Raw → Decoded
+eventIn r = eventOf (r .kind) (r .a) (operand r)
+
 -- 5: "record mark wrong" first
+abbrev pub marked : Raw → Bool
+marked r = eqb (r .mark0) recordMark0 && eqb (r .mark1) recordMark1
+
 unfoldable pub meant : Raw → Decoded
-meant r = cond (eqb (r .mark0) recordMark0 && eqb (r .mark1) recordMark1) (eventOf (r .kind) (r .a) (operand r)) (Invalid RecordMark)
+meant r = cond (marked r) (eventIn r) (Invalid RecordMark)

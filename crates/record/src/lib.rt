@@ -5,12 +5,11 @@ use events::Refusal;
 use lines::TimerInput;
 use selects::Selected;
 ghost use mathlib.Core.Path.{_≡_};
-ghost use mathlib.Core.Bool.{cond, _&&_};
+ghost use mathlib.Core.Bool.{cond};
 ghost use Prim.Native.Nat.{_+_, _≤_};
 ghost use lib.Dec.{leb, eqb};
 ghost use lib.ListN.{length};
-ghost use Rattle.bits.specs.Bytes.{byte};
-ghost use Rattle.record.specs.Records.{recordBytes, recordMark0, recordMark1, reading, inputOf, operand, eventOf, meant, rawAt};
+ghost use Rattle.record.specs.Records.{recordBytes, reading, inputOf, operand, eventIn, marked, meant, rawAt};
 ghost use Rattle.record.specs.Verdicts.{verdictOf};
 
 pub const RECORD_BYTES: usize = 8;
@@ -18,7 +17,7 @@ pub const RECORD_BYTES: usize = 8;
 // 4D and 45, low byte first.
 const MARK: u16 = 77 + 256 * 69;
 
-// What a record means.
+// What a record means, for the definitions: no function makes one.
 pub enum Decoded {
     Valid(Event),
     Invalid(Refusal),
@@ -65,12 +64,12 @@ fn selects(s: Selected) -> Verdict
 // Whether the mark stands there. As one number, low byte first, the compiler takes both bytes at once.
 fn is_marked(tape: &[u8], at: usize) -> bool
     requires { ⌜ at + recordBytes ≤ length (now tape) ⌝ }
-    ensures { λ r. ⌜ r ≡ (eqb (byte (now (tape .entry)) at) recordMark0 && eqb (byte (now (tape .entry)) (at + 1)) recordMark1) ⌝ }
+    ensures { λ r. ⌜ r ≡ marked (rawAt (now (tape .entry)) at) ⌝ }
 {
     tape[at] as u16 + tape[at + 1] as u16 * 256 == MARK
 }
 
-// Whether n is at most 255; whether it is 0; whether it is 0 or 1.
+// Whether n is at most 255.
 fn is_byte(tape: &[u8], at: usize) -> bool
     requires { ⌜ at + recordBytes ≤ length (now tape) ⌝ }
     ensures { λ r. ⌜ r ≡ leb (operand (rawAt (now (tape .entry)) at)) 255 ⌝ }
@@ -79,6 +78,7 @@ fn is_byte(tape: &[u8], at: usize) -> bool
     bits::both(high, tape[at + 6] == 0)
 }
 
+// Whether n is 0.
 fn is_zero(tape: &[u8], at: usize) -> bool
     requires { ⌜ at + recordBytes ≤ length (now tape) ⌝ }
     ensures { λ r. ⌜ r ≡ eqb (operand (rawAt (now (tape .entry)) at)) 0 ⌝ }
@@ -86,6 +86,7 @@ fn is_zero(tape: &[u8], at: usize) -> bool
     is_byte(tape, at) && tape[at + 7] == 0
 }
 
+// Whether n is 0 or 1.
 fn is_level(tape: &[u8], at: usize) -> bool
     requires { ⌜ at + recordBytes ≤ length (now tape) ⌝ }
     ensures { λ r. ⌜ r ≡ leb (operand (rawAt (now (tape .entry)) at)) 1 ⌝ }
@@ -96,7 +97,7 @@ fn is_level(tape: &[u8], at: usize) -> bool
 // Refusal 6, 7 or 8 of a record's kind and operands. Each kind reads what it needs.
 fn kind_verdict(tape: &[u8], at: usize) -> Verdict
     requires { ⌜ at + recordBytes ≤ length (now tape) ⌝ }
-    ensures { λ r. ⌜ r ≡ verdictOf (eventOf (byte (now (tape .entry)) (at + 2)) (byte (now (tape .entry)) (at + 3)) (operand (rawAt (now (tape .entry)) at))) ⌝ }
+    ensures { λ r. ⌜ r ≡ verdictOf (eventIn (rawAt (now (tape .entry)) at)) ⌝ }
 {
     let a = tape[at + 3];
     match tape[at + 2] {

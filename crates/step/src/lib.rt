@@ -1,6 +1,6 @@
 // One event of the device, by value: what it does, answers and counts. The rules stand in specs/. An
-// event is begun and then finished, so that what may change both lines and timer inputs stands in one
-// place. Every function is total; the entry that refuses is crate lent's.
+// event is begun and then finished, so that each change in which a timer input may take part stands in
+// one place. Every function is total; the entry that refuses is crate lent's.
 use device::Device;
 use device::Stepped;
 use events::Answer;
@@ -168,7 +168,7 @@ fn begin(d: Device, e: Event) -> Begun
     }
 }
 
-// What an event begun comes to: the one place where signals change.
+// What an event begun comes to: the one place where a timer input may change.
 fn finish(d: Device, b: Begun) -> Stepped
     ensures { λ r. ⌜ r ≡ finished b d ⌝ }
 {

@@ -7,7 +7,7 @@ use events::Refusal;
 use record::RECORD_BYTES;
 use record::Verdict;
 ghost use mathlib.Core.Path.{_≡_};
-ghost use Prim.Native.Nat.{_+_, _*_, _/_, _≤_, _<_};
+ghost use Prim.Native.Nat.{_+_, _≤_};
 ghost use lib.ListN.{length};
 ghost use Rattle.record.specs.Records.{recordBytes, rawAt};
 ghost use Rattle.record.specs.Taken.{taken};

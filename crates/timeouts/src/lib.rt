@@ -99,8 +99,8 @@ pub fn clocks(t: Timers, tai: bool, tbi: bool, n: u32) -> Advanced
     }
 }
 
-// One count pulse of A, of B, of both or of none, which most changes of signals are: then nothing is worked
-// out.
+// One count pulse of A, of B, of both or of none. Most changes of signals give none, and then nothing is
+// worked out.
 pub fn count(t: Timers, a: bool, b: bool) -> Advanced
     ensures { λ r. ⌜ r ≡ pulsedBy a b t ⌝ }
 {

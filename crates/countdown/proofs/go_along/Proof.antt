@@ -1,4 +1,4 @@
--- `countdown::go_along` meets its contract: the clocks to go are a countdown from the divisor. Assumes nothing.
+-- `countdown::go_along` meets its contract: the whole periods of n, and one more where its rest ends the period. Assumes nothing.
 use Prim.Native.Nat.{ℕ, _+_, _-_, _/_, _%_, _≤_, _<_}
 use mathlib.Core.Path.{_≡_, sym, ap, _∙_}
 use borrow.Author.Needs.{needs}
@@ -10,23 +10,24 @@ use Rattle.countdown.proofs.AtOnce.{toGo-bounds}
 use Rattle.countdown.proofs.go_along.Statement.{statement}
 use Rattle.countdown.proofs.go_along.Tie as tie
 
--- n clocks by the whole periods of d and the rest of n, from a position at which g clocks of a period have gone by
+-- what n clocks from position p give over the divisor e
+abbrev pulses : ℕ → ℕ → ℕ → ℕ
+pulses n p e = ranOut e n (toGo e p)
+
+abbrev position : ℕ → ℕ → ℕ → ℕ
+position n p e = e - left e n (toGo e p)
+
+-- by the whole periods of d and the rest of n, from a position at which g clocks of a period have gone by
 module _ (n p d g : ℕ) (q : 1 ≤ d) (f : g ≡ d - toGo d p) where
-  abbrev pulses : ℕ → ℕ
-  pulses e = ranOut e n (toGo e p)
-
-  abbrev position : ℕ → ℕ
-  position e = e - left e n (toGo e p)
-
   -- the rest stays in its period
-  within : n % d + g < d → (n / d ≡ pulses d) × (n % d + g ≡ position d)
+  within : n % d + g < d → (n / d ≡ pulses n p d) × (n % d + g ≡ position n p d)
   within h =
       let (a, b) = toGo-bounds d p q in
       let l : n % d < toGo d p = omega arith in
       (sym (times-few d n (toGo d p) a b l), rw (left-few d n (toGo d p) a b l) (omega arith))
 
   -- or ends it
-  beyond : d ≤ n % d + g → (n / d + 1 ≡ pulses d) × (n % d + g - d ≡ position d)
+  beyond : d ≤ n % d + g → (n / d + 1 ≡ pulses n p d) × (n % d + g - d ≡ position n p d)
   beyond h =
       let (a, b) = toGo-bounds d p q in
       let l : toGo d p ≤ n % d = omega arith in
@@ -67,7 +68,7 @@ returns c =
     let e = c .before .before .divisor-of .ensures in
     let q = least _ _ e (c .before .before .before .pre) in
     let w = within (a .n) (a .t .position) _ (c .before .gone .result) q (c .before .gone .ensures) (c .if1 .taken) in
-    (w .0 ∙ ap (pulses (a .n) (a .t .position) _ (c .before .gone .result) q (c .before .gone .ensures)) e, w .1 ∙ ap (position (a .n) (a .t .position) _ (c .before .gone .result) q (c .before .gone .ensures)) e)
+    (w .0 ∙ ap (pulses (a .n) (a .t .position)) e, w .1 ∙ ap (position (a .n) (a .t .position)) e)
 
 returns-2 : tie.Need-returns-2
 unfolding pulsesIn positionAfter
@@ -76,7 +77,7 @@ returns-2 c =
     let e = c .before .before .divisor-of .ensures in
     let q = least _ _ e (c .before .before .before .pre) in
     let w = beyond (a .n) (a .t .position) _ (c .before .gone .result) q (c .before .gone .ensures) (c .if1 .left) in
-    (w .0 ∙ ap (pulses (a .n) (a .t .position) _ (c .before .gone .result) q (c .before .gone .ensures)) e, w .1 ∙ ap (position (a .n) (a .t .position) _ (c .before .gone .result) q (c .before .gone .ensures)) e)
+    (w .0 ∙ ap (pulses (a .n) (a .t .position)) e, w .1 ∙ ap (position (a .n) (a .t .position)) e)
 
 pub go-along-spec : {M : Type 1} → statement M
 go-along-spec =

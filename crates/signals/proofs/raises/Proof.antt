@@ -1,5 +1,5 @@
 -- `signals::raises` meets its contract: the eight lines, then both inputs. Assumes nothing.
-use mathlib.Core.Path.{sym, ap, ap₂, _∙_}
+use mathlib.Core.Path.{sym, ap₂, _∙_}
 use borrow.Author.Needs.{needs}
 use Rattle.signals.proofs.Changes.{once-raised}
 use Rattle.signals.specs.Signals.{lineRaises, linesBelow, pulseEnds, signalRaises, ofInputs}

@@ -1,5 +1,5 @@
 -- `timeouts::count` meets its contract. Assumes nothing.
-use mathlib.Core.Path.{_≡_, ap, _∙_}
+use mathlib.Core.Path.{_≡_, _∙_}
 use mathlib.Core.Bool.{Bool, true, false, not, cond, _&&_}
 use borrow.Author.Needs.{needs}
 use Rattle.timers.specs.declared.Timers.{Timers}

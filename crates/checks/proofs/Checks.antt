@@ -8,7 +8,7 @@ use lib.Dec.{eqb, leb}
 use lib.ListN.{length}
 use borrow.Author.Tests.{eq-eqb, ne-eqb, le-leb, lt-leb, leb-true, eqb-true}
 use Rattle.events.specs.declared.Refusal.{Refusal}
-use Rattle.events.specs.declared.Refusal.the-variants.{ImageLength, ImageMark, ImageRule, TapeLength, RecordMark, Kind, Operand, Serial, AnswerLength}
+use Rattle.events.specs.declared.Refusal.the-variants.{ImageLength, ImageMark, ImageRule, TapeLength, RecordMark, Kind, Operand, Serial, AnswerLength, RowLength}
 use Rattle.record.specs.declared.Decoded.{Decoded}
 use Rattle.record.specs.declared.Decoded.the-variants.{Valid, Invalid}
 use Rattle.checks.specs.declared.Checked.{Checked}
@@ -31,6 +31,7 @@ returned-above Kind i e = omega arith
 returned-above Operand i e = omega arith
 returned-above Serial i e = omega arith
 returned-above AnswerLength i e = omega arith
+returned-above RowLength i e = omega arith
 
 -- the record refused is one of those checked
 bad-below : (tape : List ℕ) (i k : ℕ) (r : Refusal) (j : ℕ) → firstBad tape i k ≡ Bad r j → j < i + k

@@ -37,7 +37,7 @@ pub enum Answer {
     Held,
 }
 
-// The nine refusals, in the paper's order.
+// The refusals of document 01 in its order, then the row's (document 02, 1/13).
 pub enum Refusal {
     ImageLength,
     ImageMark,
@@ -48,6 +48,7 @@ pub enum Refusal {
     Operand,
     Serial,
     AnswerLength,
+    RowLength,
 }
 
 // Whether a number is a line's.
@@ -120,5 +121,6 @@ pub fn number_of(r: Refusal) -> u8
         Refusal::Operand => 7,
         Refusal::Serial => 8,
         Refusal::AnswerLength => 9,
+        Refusal::RowLength => 10,
     }
 }

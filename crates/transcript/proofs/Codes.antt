@@ -9,7 +9,7 @@ use lib.ListN.{length}
 use borrow.Author.Tests.{leb-true, le-leb}
 use Rattle.bits.proofs.Bits.{halves}
 use Rattle.events.specs.declared.Refusal.{Refusal}
-use Rattle.events.specs.declared.Refusal.the-variants.{ImageLength, ImageMark, ImageRule, TapeLength, RecordMark, Kind, Operand, Serial, AnswerLength}
+use Rattle.events.specs.declared.Refusal.the-variants.{ImageLength, ImageMark, ImageRule, TapeLength, RecordMark, Kind, Operand, Serial, AnswerLength, RowLength}
 use Rattle.events.specs.Numbers.{numberOf}
 use Rattle.record.specs.Records.{recordBytes}
 use Rattle.answer.specs.Answers.{answerBytes}
@@ -22,7 +22,7 @@ use Rattle.checks.proofs.Checks.{index-below}
 use Rattle.transcript.specs.Transcript.{recordsMost, codeOf}
 use Rattle.transcript.specs.Private.{answersMost}
 
-number-low : (r : Refusal) → numberOf r < 10
+number-low : (r : Refusal) → numberOf r < 256
 number-low ImageLength = lit< tt
 number-low ImageMark = lit< tt
 number-low ImageRule = lit< tt
@@ -32,6 +32,7 @@ number-low Kind = lit< tt
 number-low Operand = lit< tt
 number-low Serial = lit< tt
 number-low AnswerLength = lit< tt
+number-low RowLength = lit< tt
 
 module _ (tape : List ℕ) where
   abbrev n : ℕ

@@ -1,0 +1,2 @@
+-- What the walk shares: the turns over a row.
+pub mod Going

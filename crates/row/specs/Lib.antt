@@ -1,0 +1,3 @@
+-- A row of devices, acknowledged together.
+pub mod Rows
+pub mod Private

@@ -1,0 +1,3 @@
+-- A row of images, acknowledged together.
+pub mod RowImages
+pub mod Private

@@ -18,4 +18,5 @@ pub mod Numbers
 pub mod Spans
 pub mod Tapes
 pub mod Acknowledges
+pub mod Rows
 pub mod Parts

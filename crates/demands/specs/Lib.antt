@@ -8,6 +8,7 @@ pub mod Refusals
 pub mod Entries
 pub mod Tapes
 pub mod Acknowledges
+pub mod Rows
 pub mod Parts
 pub mod Accepted
 pub mod Raised

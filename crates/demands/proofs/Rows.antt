@@ -1,16 +1,13 @@
 -- A row of devices, acknowledged together: from the laws of one acknowledge. Assumes nothing.
-use Prim.Native.Nat.{ℕ, zero, suc, _+_, _%_, _<_, _≤_}
-use mathlib.Core.Path.{_≡_, refl, sym, ap, ap₂, subst, _∙_}
-use mathlib.Core.Bool.{Bool, true, false, cond, not, _&&_, _||_, false≢true}
+use Prim.Native.Nat.{ℕ, zero, suc, _+_, _<_, _≤_}
+use mathlib.Core.Path.{_≡_, refl, sym, ap, subst, _∙_}
+use mathlib.Core.Bool.{Bool, true, false, cond, not, false≢true}
 use mathlib.Core.List.{List, [], _∷_, _++_, map}
 use native.Mathlib.Omega.{arith}
 use lib.Dec.{ltb, leb}
-use lib.ListN.{length, take, length-map, length-append}
+use lib.ListN.{length, take}
 use borrow.Author.Tests.{lt-ltb, le-ltb, le-leb, ltb-true, leb-true}
 use Rattle.bits.proofs.Bits.{halves, joined}
-use Rattle.channels.specs.Channels.{has}
-use Rattle.interrupts.specs.declared.Interrupts.{Interrupts}
-use Rattle.requests.specs.declared.Acknowledged.{Acknowledged}
 use Rattle.requests.specs.declared.Requesting.{Requesting}
 use Rattle.requests.specs.declared.Requesting.the-variants.{By, Nobody}
 use Rattle.requests.specs.Requests.{requests, someRequests, irq, highest, acknowledgedBy, acknowledged}
@@ -28,8 +25,7 @@ use Rattle.step.specs.Events.{stepOf, effectOf, replied}
 use Rattle.row.specs.declared.RowAnswer.{RowAnswer}
 use Rattle.row.specs.declared.RowAnswer.the-variants.{Given, AllPassed, Refused}
 use Rattle.row.specs.Rows.{ieo, acknowledgedFrom, acknowledgedRow, devicesOf, givenOr, givenFrom, rowMost, fitting, allKeep, firstBroken, rowAnswer, rowAfter}
-use Rattle.demands.specs.Acknowledges.{Gave, Served}
-use Rattle.demands.specs.Rows.{NoneRequests, EachKeepsTheRule, OneToEight, AcceptedRow, passedOn, held, RowGave, FirstThatRequestsGives, NoneRequestsAllPass, ServiceAloneHoldsNothingBack, IeoIsNotIrq, upTo, AgreeUpTo, NoDeviceDependsOnThoseAfterIt, RowOfOne, RowKeepsLength, RowKeepsRule, AcceptedRowStaysAccepted, LengthIsCheckedFirst, ThenTheFirstBroken, RefusedRowUnchanged, AcceptedRowIsNotRefused}
+use Rattle.demands.specs.Rows.{NoneRequests, EachKeepsTheRule, OneToEight, AcceptedRow, passedOn, held, FirstThatRequestsGives, NoneRequestsAllPass, ServiceAloneHoldsNothingBack, IeoIsNotIrq, upTo, NoDeviceDependsOnThoseAfterIt, RowOfOne, RowKeepsLength, RowKeepsRule, AcceptedRowStaysAccepted, LengthIsCheckedFirst, ThenTheFirstBroken, RefusedRowUnchanged, AcceptedRowIsNotRefused}
 use Rattle.demands.proofs.Acknowledges.{gives-vector, request-is-served}
 use Rattle.demands.proofs.Rule.{every-event-keeps-the-rule}
 

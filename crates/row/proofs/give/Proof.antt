@@ -1,5 +1,5 @@
 -- `row::give` meets its contract: by what the acknowledge, `ieo` and `answer_past` ensure. Assumes nothing.
-use mathlib.Core.Path.{_≡_, _∙_, sym, ap, ap₂}
+use mathlib.Core.Path.{_≡_, _∙_, ap}
 use Prim.Native.Nat.{_+_}
 use mathlib.Core.Bool.{Bool, false}
 use lib.Dec.{ltb}

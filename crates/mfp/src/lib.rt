@@ -2,6 +2,7 @@
 use device::Device;
 ghost use mathlib.Core.Path.{_≡_};
 ghost use Rattle.run.specs.Runs.{resultOf, imageAfter, answersAfter};
+ghost use Rattle.row_images.specs.RowImages.{rowResult, rowImages};
 ghost use Rattle.mfp.specs.Calls.{freshResult, freshOver};
 
 // Runs a tape on the device of an image: 0, or 256 × index of the bad record + the refusal's number.
@@ -24,4 +25,14 @@ pub extern "C" fn mfp_fresh(image: &mut [u8]) -> u32
     }
     image::store(Device::fresh(), image);
     0
+}
+
+// Acknowledges the row of one to eight images, one after another, the first with IEI asserted: the code,
+// 0 or 256 × index of the bad image + the refusal's number, and above its 32 bits 256 × how many passed on
+// + the vector.
+#[no_mangle]
+pub extern "C" fn mfp_row_acknowledge(images: &mut [u8]) -> u64
+    ensures { λ r. ⌜ (r ≡ rowResult (now (images .entry))) × (now (images .exit) ≡ rowImages (now (images .entry))) ⌝ }
+{
+    row_images::acknowledge(images)
 }

@@ -3,8 +3,9 @@
  *
  * A device is an image of 32 bytes that the host keeps. The host writes what
  * happens to the device as records on a tape, calls mfp_run, and finds one
- * answer for each record. The library keeps no state between calls and knows
- * no device but the one it is lent.
+ * answer for each record. Devices that are chained by IEI and IEO it lends
+ * together, as a row. The library keeps no state between calls and knows no
+ * device but those it is lent.
  *
  * All numbers of more than one byte stand high byte first.
  */
@@ -24,13 +25,16 @@ extern "C" {
  * meaning or is added. The library is of its header's version; it has no
  * symbol that tells.
  */
-#define MFP_VERSION 1
+#define MFP_VERSION 2
 
 /* Sizes in bytes. MFP_TAPE_MAX is the longest tape: 512 records. */
 #define MFP_IMAGE_BYTES 32
 #define MFP_RECORD_BYTES 8
 #define MFP_ANSWER_BYTES 22
 #define MFP_TAPE_MAX 4096
+
+/* The most images of a row. */
+#define MFP_ROW_MAX 8
 
 /* The two bytes that open an image, a record and an answer. */
 #define MFP_IMAGE_MARK_0 0x4D
@@ -158,11 +162,12 @@ enum mfp_class {
 };
 
 /*
- * Refusals, in the order in which they are checked: 1 to 4, then 5 to 8 for
- * each record in tape order, then 9.
+ * Refusals. The order in which mfp_run checks them: 1 to 4, then 5 to 8 for
+ * each record in tape order, then 9. That of mfp_row_acknowledge: 10, 1, then
+ * 2 and 3 for each image in the order of the row.
  */
 enum mfp_refusal_number {
-    MFP_BAD_IMAGE_LENGTH = 1,  /* the image buffer is not MFP_IMAGE_BYTES long */
+    MFP_BAD_IMAGE_LENGTH = 1,  /* not MFP_IMAGE_BYTES; of a row, no multiple of it */
     MFP_BAD_IMAGE_MARK = 2,    /* the image does not open with its mark */
     MFP_BAD_IMAGE = 3,         /* the image breaks the image rule */
     MFP_BAD_TAPE_LENGTH = 4,   /* no multiple of 8 bytes, or above MFP_TAPE_MAX */
@@ -170,7 +175,8 @@ enum mfp_refusal_number {
     MFP_BAD_KIND = 6,          /* a kind above 7 */
     MFP_BAD_OPERAND = 7,       /* an operand out of range */
     MFP_SERIAL_REGISTER = 8,   /* read or write of a serial register */
-    MFP_BAD_ANSWER_LENGTH = 9  /* fewer than MFP_ANSWER_BYTES a record */
+    MFP_BAD_ANSWER_LENGTH = 9, /* fewer than MFP_ANSWER_BYTES a record */
+    MFP_BAD_ROW_LENGTH = 10    /* a row of none, or of more than MFP_ROW_MAX images */
 };
 
 /*
@@ -203,6 +209,40 @@ uint32_t mfp_run(uint8_t *image, size_t image_len, const uint8_t *tape, size_t t
  * must be valid for its length, and its pointer must not be NULL.
  */
 uint32_t mfp_fresh(uint8_t *image, size_t image_len);
+
+/*
+ * Acknowledge over a row of one to MFP_ROW_MAX devices that are chained: the
+ * IEI of the first is asserted, the IEO of each is the IEI of the next.
+ *
+ * images   the devices one after another, the highest priority first;
+ *          images_len / MFP_IMAGE_BYTES of them
+ *
+ * The first device that requests gives its vector and changes as by an
+ * acknowledge record; those before it pass on, those after it are held. Where
+ * none requests, all pass on. A bit in service alone holds nothing back.
+ *
+ * Returns the code in the low 32 bits, as mfp_run does: 0, or 256 * index of
+ * the bad image + number of the refusal; the index is 0 for refusals 10 and 1.
+ * In the high 32 bits it tells 256 * the devices that passed on + the vector.
+ * Where none requests, as many passed on as there are, and the vector is 0. A
+ * refused call tells 0. mfp_row_code, mfp_row_passed, mfp_row_vector and
+ * mfp_row_gave take the number apart.
+ *
+ * It refuses, in this order: MFP_BAD_ROW_LENGTH where images_len is 0 or above
+ * MFP_ROW_MAX * MFP_IMAGE_BYTES; MFP_BAD_IMAGE_LENGTH where it is no multiple
+ * of MFP_IMAGE_BYTES; MFP_BAD_IMAGE_MARK and MFP_BAD_IMAGE for each image in
+ * turn, so that the first bad image counts.
+ *
+ * Success alters the image of the device that gave the vector, and no other
+ * byte. What a device of an accepted row answers and becomes never depends on
+ * those after it. A refusal leaves every byte of the row as it came.
+ *
+ * The caller sees to it that the buffer is valid for its length, that its
+ * images are of MFP_IMAGE_BYTES each and that no other call is lent a byte of
+ * it meanwhile; this cannot be checked here. A buffer of length 0 is not
+ * touched, but its pointer must not be NULL.
+ */
+uint64_t mfp_row_acknowledge(uint8_t *images, size_t images_len);
 
 #ifdef __cplusplus
 }
@@ -349,10 +389,37 @@ static inline unsigned mfp_refusal(uint32_t code)
     return code & 255u;
 }
 
-/* And the index of the record that it is about, 0 for refusals 1 to 4 and 9. */
+/*
+ * And the index of what it is about: of a tape the record's, 0 for refusals 1
+ * to 4 and 9; of a row the image's, 0 for refusals 10 and 1.
+ */
 static inline uint32_t mfp_refused_record(uint32_t code)
 {
     return code >> 8;
+}
+
+/* Take the number of a row apart: the code, 0 if it was accepted. */
+static inline uint32_t mfp_row_code(uint64_t result)
+{
+    return result & 0xFFFFFFFFu;
+}
+
+/* How many devices passed on: the index of the one after them, which gave its vector. */
+static inline unsigned mfp_row_passed(uint64_t result)
+{
+    return result >> 40 & 255u;
+}
+
+/* The vector; 0 where none was given, and 0 may be one, so ask mfp_row_gave. */
+static inline unsigned mfp_row_vector(uint64_t result)
+{
+    return result >> 32 & 255u;
+}
+
+/* Whether a device of the row gave a vector; images_len as in the call. */
+static inline bool mfp_row_gave(uint64_t result, size_t images_len)
+{
+    return mfp_row_code(result) == 0 && mfp_row_passed(result) < images_len / MFP_IMAGE_BYTES;
 }
 
 /* A refusal in words, by its number. It is a constant; nobody frees it. */
@@ -379,6 +446,8 @@ static inline const char *mfp_refusal_text(unsigned number)
         return "read or write with rs 19 to 23";
     case MFP_BAD_ANSWER_LENGTH:
         return "answer buffer shorter than 22 bytes a record";
+    case MFP_BAD_ROW_LENGTH:
+        return "row of none or more than eight";
     default:
         return "no refusal has this number";
     }

@@ -318,7 +318,7 @@ fn cited_by(path: &str) -> Vec<String> {
     files.filter(|file| root().join(file).exists()).collect()
 }
 
-/// README.md counts the definition files that the two calls rest on, and their lines.
+/// README.md counts the definition files that the calls rest on, and their lines.
 #[test]
 fn what_the_calls_rest_on_is_counted() {
     let mut files = cited_by("crates/mfp/src/lib.rt");

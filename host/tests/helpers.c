@@ -48,9 +48,10 @@ static void sizes_and_marks(void)
 {
     uint8_t image[32], record[8], answer[22];
 
-    expect("version", MFP_VERSION == 1);
+    expect("version", MFP_VERSION == 2);
     expect("sizes", MFP_IMAGE_BYTES == 32 && MFP_RECORD_BYTES == 8 && MFP_ANSWER_BYTES == 22);
     expect("longest tape", MFP_TAPE_MAX == 4096);
+    expect("longest row", MFP_ROW_MAX == 8);
     mfp_put_reset(record);
     expect("fresh image", mfp_fresh(image, 32) == 0);
     expect("one answer", mfp_call(image, record, 8, answer, 22) == 0);
@@ -346,7 +347,94 @@ static void refusals_have_their_words(void)
     is_refused(mfp_call(image, tape, 16, answers, 43), 9, 0,
                "answer buffer shorter than 22 bytes a record");
     expect("parts of a code", mfp_refusal(0x1FFFFu) == 255 && mfp_refused_record(0x1FFFFu) == 511);
-    expect("no tenth refusal", strcmp(mfp_refusal_text(10), "no refusal has this number") == 0);
+    expect("no eleventh refusal", strcmp(mfp_refusal_text(11), "no refusal has this number") == 0);
+}
+
+/* Eight devices, S set, vectors from 00, 10 and so on; channel 0 requests in those that a bit names. */
+static void make_row(uint8_t *row, unsigned requesting)
+{
+    unsigned i;
+
+    memset(row, 0, 256);
+    for (i = 0; i < 8; i++) {
+        row[0] = 0x4D;
+        row[1] = 0x31;
+        row[6] = row[12] = 0x01;
+        row[8] = requesting >> i & 1u;
+        row[13] = mfp_byte(16 * i + 8);
+        row += 32;
+    }
+}
+
+/* An accepted row: its number, the number's parts, and of its bytes the giver's two alone. */
+static void row_gives(unsigned requesting, unsigned images, unsigned passed, bool gives)
+{
+    uint8_t row[256], wanted[256];
+    unsigned vector = gives ? 16 * passed : 0;
+    uint64_t told = 256 * passed + vector;
+    uint64_t result;
+    char name[40];
+
+    make_row(row, requesting);
+    make_row(wanted, requesting);
+    if (gives) {
+        wanted[32 * passed + 8] = 0;
+        wanted[32 * passed + 10] = 0x01;
+    }
+    result = mfp_row_acknowledge(row, 32 * images);
+    snprintf(name, sizeof name, "row of %u, %u passed on", images, passed);
+    expect(name, result == told << 32 && memcmp(row, wanted, 256) == 0);
+    snprintf(name, sizeof name, "its parts, %u and %u", images, passed);
+    expect(name, mfp_row_code(result) == 0 && mfp_row_passed(result) == passed &&
+                     mfp_row_vector(result) == vector &&
+                     mfp_row_gave(result, 32 * images) == gives);
+}
+
+static void rows_are_read(void)
+{
+    unsigned images, place;
+
+    for (images = 1; images <= 8; images++) {
+        row_gives(0, images, images, false);
+        row_gives(0xFFu ^ ((1u << images) - 1u), images, images, false);
+        for (place = 0; place < images; place++) {
+            row_gives(1u << place, images, place, true);
+            row_gives(0xFFu << place & 0xFFu, images, place, true);
+        }
+    }
+    expect("parts of a row's number",
+           mfp_row_code(0x000007FEFFFFFFFFu) == 0xFFFFFFFFu &&
+               mfp_row_passed(0x000007FEFFFFFFFFu) == 7 && mfp_row_vector(0x000007FEFFFFFFFFu) == 0xFE);
+}
+
+/* A refused row has these two parts and these words, tells 0, and keeps its bytes. */
+static void row_is_refused(size_t length, size_t at, uint8_t byte, unsigned number, uint32_t index,
+                           const char *text)
+{
+    uint8_t row[320], before[320];
+    uint64_t result;
+
+    memset(row, 0xA5, sizeof row);
+    make_row(row, 0xFF);
+    row[at] = byte;
+    memcpy(before, row, sizeof row);
+    result = mfp_row_acknowledge(row, length);
+    is_refused(mfp_row_code(result), number, index, text);
+    expect("a refused row", result >> 32 == 0 && mfp_row_passed(result) == 0 &&
+                                mfp_row_vector(result) == 0 && !mfp_row_gave(result, length) &&
+                                memcmp(row, before, sizeof row) == 0);
+}
+
+static void rows_are_refused(void)
+{
+    row_is_refused(0, 0, 0x4D, 10, 0, "row of none or more than eight");
+    row_is_refused(257, 0, 0, 10, 0, "row of none or more than eight");
+    row_is_refused(288, 0, 0, 10, 0, "row of none or more than eight");
+    row_is_refused(31, 0, 0, 1, 0, "image buffer is not 32 bytes");
+    row_is_refused(255, 0, 0, 1, 0, "image buffer is not 32 bytes");
+    row_is_refused(256, 0, 0, 2, 0, "image mark wrong");
+    row_is_refused(256, 32 * 7 + 1, 0x32, 2, 7, "image mark wrong");
+    row_is_refused(64, 32 + 14, 16, 3, 1, "image breaks the image rule");
 }
 
 static void null_is_nothing(void)
@@ -374,6 +462,8 @@ int main(void)
     channels_have_their_numbers();
     answers_are_read();
     refusals_have_their_words();
+    rows_are_read();
+    rows_are_refused();
     null_is_nothing();
     expect("no NULL came to the library", calls > 0 && !null_was_lent);
     printf("%d passed, %d failed\n", passed, failed);

@@ -1,4 +1,4 @@
-//! A second MC68901, written from the paper alone, to be compared with the
+//! A second MC68901, written from the papers alone, to be compared with the
 //! proved library; and the text form in which people write tapes.
 //! Nothing here needs the library: that part is the package in `differ/`.
 #![deny(warnings, missing_docs)]

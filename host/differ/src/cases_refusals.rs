@@ -1,5 +1,6 @@
-//! The nine refusals: every boundary of every condition and the order between
-//! them, with the expected number worked out here from the paper's words.
+//! The nine refusals of image and tape: every boundary of every condition and
+//! the order between them, with the expected number worked out here from the
+//! paper's words.
 
 use crate::call::{Call, Lender};
 use crate::shrink;

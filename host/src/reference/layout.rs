@@ -32,6 +32,8 @@ pub mod answer_at {
 pub const TIMERS: usize = 4;
 /// The longest tape, in bytes.
 pub const TAPE_MAX: usize = 4096;
+/// The longest row, in devices.
+pub const ROW_MAX: usize = 8;
 
 /// The registers in the order of their register select.
 pub const REGISTERS: [&str; 24] = [
@@ -57,7 +59,7 @@ pub mod kind {
 /// The channels a record of the last kind may raise.
 pub const RAISABLE: std::ops::RangeInclusive<u8> = 9..=12;
 
-/// The nine refusals, by the numbers of the paper.
+/// The ten refusals, by the numbers of the papers.
 #[derive(Clone, Copy, Debug, PartialEq, Eq)]
 #[allow(missing_docs)]
 pub enum Refusal {
@@ -70,10 +72,11 @@ pub enum Refusal {
     Operand = 7,
     SerialRegister = 8,
     AnswerLength = 9,
+    RowLength = 10,
 }
 
 impl std::fmt::Display for Refusal {
-    /// The condition in the words of the paper.
+    /// The condition in the words of the papers.
     fn fmt(&self, out: &mut std::fmt::Formatter) -> std::fmt::Result {
         out.write_str(match self {
             Refusal::ImageLength => "image buffer is not 32 bytes",
@@ -85,6 +88,7 @@ impl std::fmt::Display for Refusal {
             Refusal::Operand => "operand out of range",
             Refusal::SerialRegister => "read or write with rs 19 to 23",
             Refusal::AnswerLength => "answer buffer shorter than 22 × records",
+            Refusal::RowLength => "row of none or more than eight",
         })
     }
 }

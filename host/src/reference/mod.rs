@@ -1,11 +1,12 @@
-//! The second implementation of the rules: written from the paper, with
+//! The second implementation of the rules: written from the papers, with
 //! channels and lines as rows of bools. It takes no code from the proved
-//! library; its tables are its own copies of the paper's. Short spans go one
+//! library; its tables are its own copies of the papers'. Short spans go one
 //! clock at a time, long ones by a closed form of its own. It is in no hurry.
 
 pub mod device;
 pub mod image;
 pub mod layout;
+pub mod row;
 pub mod tape;
 pub mod timer;
 
@@ -33,7 +34,8 @@ pub fn fresh(image: &mut [u8]) -> u32 {
     0
 }
 
-/// The number a refusal is returned as.
+/// The number a refusal is returned as; the index is that of the bad record,
+/// in a row of the bad image.
 pub fn code(index: usize, refusal: Refusal) -> u32 {
     256 * index as u32 + refusal as u32
 }

@@ -133,4 +133,14 @@ impl Lender {
             .map(|image| (code, image))
             .ok_or_else(|| "a byte beside the buffer was written: fresh image".to_string())
     }
+
+    /// The library's number for a row of these images, and what it left of them.
+    pub fn row(&mut self, images: &[u8]) -> Result<(u64, Vec<u8>), String> {
+        let side = self.side();
+        let result = ffi::row_acknowledge(self.image.lend(images, side));
+        let after = self.image.take_back();
+        after
+            .map(|images| (result, images))
+            .ok_or_else(|| "a byte beside the buffer was written: row".to_string())
+    }
 }

@@ -2,21 +2,11 @@
 //! the order between them, with the expected number worked out here from the
 //! paper's words.
 
-use crate::call::{Call, Lender};
-use crate::shrink;
+use crate::call::Call;
+use crate::trial::{Case, Trial};
 use mfp_host::reference::image::at;
 use mfp_host::reference::tape::raw_record;
 use mfp_host::reference::Device;
-
-/// Calls that were tried, and the first that went wrong.
-pub struct Trial<'a> {
-    lender: &'a mut Lender,
-    tried: u64,
-    wrong: Option<String>,
-}
-
-/// A name and the calls it tries.
-pub type Case = (&'static str, fn(&mut Trial));
 
 pub const CASES: &[Case] = &[
     ("refusal 1: image length", image_length),
@@ -42,34 +32,7 @@ pub const CASES: &[Case] = &[
 const RECORD: [u8; 2] = [0x4D, 0x45];
 const RESET: [u8; 8] = [0x4D, 0x45, 0, 0, 0, 0, 0, 0];
 
-/// Run one case; the number of calls, or what went wrong.
-pub fn run(lender: &mut Lender, case: fn(&mut Trial)) -> Result<u64, String> {
-    let mut trial = Trial {
-        lender,
-        tried: 0,
-        wrong: None,
-    };
-    case(&mut trial);
-    trial.wrong.map_or(Ok(trial.tried), Err)
-}
-
 impl Trial<'_> {
-    /// This call gives this code, and both implementations agree on all of it.
-    fn gives(&mut self, call: &Call, code: u32) {
-        self.tried += 1;
-        if self.wrong.is_some() {
-            return;
-        }
-        match self.lender.compare(call) {
-            Ok(outcome) if outcome.code == code => {}
-            Ok(outcome) => {
-                let said = format!("expected code {code}, found {}", outcome.code);
-                self.wrong = Some(said);
-            }
-            Err(wrong) => self.wrong = Some(shrink::report(self.lender, call, &wrong)),
-        }
-    }
-
     /// An image with an empty tape: accepted or refused by its number.
     fn image(&mut self, image: &[u8], code: u32) {
         self.gives(&Call::new(image, &[]), code);

@@ -13,6 +13,7 @@ extern "C" {
         answers_len: usize,
     ) -> u32;
     fn mfp_fresh(image: *mut u8, image_len: usize) -> u32;
+    fn mfp_row_acknowledge(images: *mut u8, images_len: usize) -> u64;
     fn plain_run(image: *mut u8, tape: *const u8, records: usize, answers: *mut u8);
 }
 
@@ -35,6 +36,12 @@ pub fn run(image: &mut [u8], tape: &[u8], answers: &mut [u8]) -> u32 {
 pub fn fresh(image: &mut [u8]) -> u32 {
     // SAFETY: the slice is valid for its length.
     unsafe { mfp_fresh(image.as_mut_ptr(), image.len()) }
+}
+
+/// The library's acknowledge over a row.
+pub fn row_acknowledge(images: &mut [u8]) -> u64 {
+    // SAFETY: the slice is valid for its length.
+    unsafe { mfp_row_acknowledge(images.as_mut_ptr(), images.len()) }
 }
 
 /// The plain C's run, for calls that are known to be accepted.

@@ -1,8 +1,9 @@
 //! The proved library against the second implementation.
 //!
-//! `differ` runs the named cases and four million random events by fixed seeds;
+//! `differ` runs the named cases, then four million random events and a hundred
+//! thousand random rows by fixed seeds;
 //! `differ --cases` and `differ --seeds FIRST LAST` run a part of that;
-//! `differ --seed S --events N` runs random events alone, by any seed;
+//! `differ --seed S --events N` runs random events and rows alone, by any seed;
 //! `differ --replay PROGRAM` compares the replay program's lines.
 //! MFP_EMULATOR names what other processes run under, where the machine needs it.
 //! The last line is `N passed, M failed`; any failure is a non-zero status.
@@ -12,12 +13,16 @@ mod call;
 mod cases_hard;
 mod cases_paper;
 mod cases_refusals;
+mod cases_row;
 mod ffi;
 mod guard;
 mod program;
 mod random;
+mod random_rows;
 mod rig;
+mod row;
 mod shrink;
+mod trial;
 
 use call::Lender;
 use guard::Side;
@@ -27,6 +32,8 @@ use std::process::ExitCode;
 /// The seeds of a run without arguments, and the events of each.
 const SEEDS: std::ops::RangeInclusive<u64> = 1..=10;
 const EVENTS: u64 = 400_000;
+/// So many events to a random row.
+const EVENTS_A_ROW: u64 = 40;
 /// With so many events a run has to reach everything at least once.
 const ENOUGH_TO_REACH_ALL: u64 = 20_000;
 
@@ -112,18 +119,22 @@ fn cases(tally: &mut Tally) {
             rig.finish()
         });
     }
-    for (name, case) in cases_refusals::CASES {
-        tally.case(name, || cases_refusals::run(&mut lender, *case));
+    for (name, case) in cases_refusals::CASES.iter().chain(cases_row::CASES) {
+        tally.case(name, || trial::run(&mut lender, *case));
     }
 }
 
-/// Random events by each seed; then everything must have been reached.
+/// Random events and rows by each seed; then everything must have been reached.
 fn random_events(tally: &mut Tally, seeds: std::ops::RangeInclusive<u64>, events: u64) {
     let mut lender = Lender::new();
     let mut reached = Reached::default();
     for seed in seeds {
         tally.case(&format!("{events} random events, seed {seed}"), || {
             random::run(&mut lender, seed, events, &mut reached)
+        });
+        let rows = events / EVENTS_A_ROW;
+        tally.case(&format!("{rows} random rows, seed {seed}"), || {
+            random_rows::run(&mut lender, seed, rows, &mut reached.rows)
         });
     }
     for (name, count) in reached.named() {

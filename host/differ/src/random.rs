@@ -3,6 +3,7 @@
 //! as well, and their clock events are cut and joined.
 
 use crate::call::{Call, Lender, Outcome};
+use crate::random_rows;
 use crate::shrink;
 use mfp_host::reference::image::at;
 use mfp_host::reference::layout::{
@@ -26,6 +27,7 @@ pub struct Reached {
     pub irqs: u64,
     pub cuts: u64,
     pub joins: u64,
+    pub rows: random_rows::Reached,
 }
 
 impl Reached {
@@ -45,6 +47,7 @@ impl Reached {
         all.push(("answers with IRQ".to_string(), self.irqs));
         all.push(("spans cut".to_string(), self.cuts));
         all.push(("spans joined".to_string(), self.joins));
+        all.extend(self.rows.named());
         all
     }
 
@@ -245,7 +248,7 @@ fn damage(rng: &mut Rng, call: &mut Call) {
 }
 
 /// One of these bytes becomes another, where the buffer has it.
-fn spoil(rng: &mut Rng, bytes: &mut [u8], from: usize, to: usize) {
+pub fn spoil(rng: &mut Rng, bytes: &mut [u8], from: usize, to: usize) {
     let at = from + rng.below((to - from) as u64) as usize;
     let near = rng.pick(&[1, 255]);
     let byte = rng.byte();

@@ -20,29 +20,37 @@ pub fn report(lender: &mut Lender, call: &Call, wrong: &str) -> String {
     said
 }
 
-/// Take any smaller call that is still wrong, until there is none.
-pub fn smallest(call: &Call, mut wrong: impl FnMut(&Call) -> bool) -> Call {
-    let mut call = call.clone();
+/// The smallest call that was found and is still wrong.
+pub fn smallest(call: &Call, wrong: impl FnMut(&Call) -> bool) -> Call {
+    descend(call, smaller_calls, wrong)
+}
+
+/// What is a little smaller, in the order in which it is tried.
+pub type Smaller<T> = for<'a> fn(&'a T) -> Box<dyn Iterator<Item = T> + 'a>;
+
+/// Take anything smaller that is still wrong, until there is none.
+pub fn descend<T: Clone>(start: &T, smaller: Smaller<T>, mut wrong: impl FnMut(&T) -> bool) -> T {
+    let mut found = start.clone();
     let mut tries = 0;
     loop {
-        let smaller = smaller_calls(&call).find(|smaller| {
+        let next = smaller(&found).find(|next| {
             tries += 1;
-            tries > TRIES || wrong(smaller)
+            tries > TRIES || wrong(next)
         });
-        match smaller {
-            Some(smaller) if tries <= TRIES => call = smaller,
-            _ => return call,
+        match next {
+            Some(next) if tries <= TRIES => found = next,
+            _ => return found,
         }
     }
 }
 
 /// One record less, a smaller operand, or one image byte as in a fresh device.
-fn smaller_calls(call: &Call) -> impl Iterator<Item = Call> + '_ {
+fn smaller_calls(call: &Call) -> Box<dyn Iterator<Item = Call> + '_> {
     let records = 0..call.tape.len() / RECORD_BYTES;
     let fewer = records.clone().rev().map(|i| without(call, i));
     let fresher = (0..call.image.len()).filter_map(|i| fresher(call, i));
     let lower = records.flat_map(|i| lower_operands(call, i));
-    fewer.chain(fresher).chain(lower)
+    Box::new(fewer.chain(fresher).chain(lower))
 }
 
 fn without(call: &Call, record: usize) -> Call {

@@ -159,6 +159,8 @@ static void refusals(void)
     expect("7: IEI 2", mfp_call(image, tape, sizeof tape, answer, sizeof answer) == MFP_BAD_OPERAND);
     mfp_put_record(tape, MFP_RESET, 0, 1);
     expect("7: an unused operand", mfp_call(image, tape, sizeof tape, answer, sizeof answer) == MFP_BAD_OPERAND);
+    expect("1: half a row", mfp_row_acknowledge(image, sizeof image - 1) == MFP_BAD_IMAGE_LENGTH);
+    expect("10: no row", mfp_row_acknowledge(image, 0) == MFP_BAD_ROW_LENGTH);
 }
 
 static void looking(void)
@@ -253,6 +255,98 @@ static void dozing(void)
     expect("what was owed counts", doze(&p, 1000) == 0 && memcmp(p.image, q.image, sizeof p.image) == 0);
 }
 
+/* Two parts of the page, vectors 40 to 4F and 50 to 5F. */
+static void start_chain(struct part *parts)
+{
+    start_timer(&parts[0]);
+    start_timer(&parts[1]);
+    write_register(&parts[1], MFP_VR, 0x58);
+}
+
+/* A cycle in which this part gives this vector; PARTS and -1 for a spurious one. */
+static bool gives(struct part *parts, size_t part, int wanted)
+{
+    size_t giver = 77;
+    int vector = 77;
+
+    return chain_acknowledge(parts, &vector, &giver) == 0 && giver == part && vector == wanted;
+}
+
+/* The images are those of before. */
+static bool stays(const struct part *parts, const struct part *before, size_t n)
+{
+    size_t i = 0;
+
+    while (i < n && memcmp(parts[i].image, before[i].image, sizeof parts[i].image) == 0)
+        i++;
+    return i == n;
+}
+
+static void chained(void)
+{
+    struct part parts[PARTS], before[PARTS];
+    uint8_t answer[MFP_ANSWER_BYTES];
+
+    start_chain(parts);
+    memcpy(before, parts, sizeof before);
+    expect("no part requests", chain_look(parts) == 0 && !chain_irq(parts));
+    expect("spurious", gives(parts, PARTS, -1) && stays(parts, before, PARTS));
+    parts[1].owed = 24;
+    expect("what is owed comes first", !chain_irq(parts) && chain_look(parts) == 0 && parts[1].owed == 0);
+    expect("either part's IRQ is the level's", chain_irq(parts) && !parts[0].irq);
+    memcpy(before, parts, sizeof before);
+    expect("the first passes on", gives(parts, 1, 0x55) && !chain_irq(parts));
+    expect("and stays", stays(parts, before, 1));
+    expect("the giver is in service", parts[1].image[MFP_IMAGE_ISRB] == 0x20 && parts[1].image[MFP_IMAGE_IPRB] == 0);
+    expect("end of service", end_of_service(&parts[1], 0x55, answer) == 0 && parts[1].image[MFP_IMAGE_ISRB] == 0);
+    parts[0].owed = parts[1].owed = 24;
+    expect("of two the first gives", gives(parts, 0, 0x45) && parts[1].owed == 0);
+    expect("the other is held, and still asks", chain_irq(parts) && parts[1].irq && !parts[0].irq);
+    expect("no service holds it back", parts[0].image[MFP_IMAGE_ISRB] == 0x20 && gives(parts, 1, 0x55));
+    parts[0].owed = 24;
+    expect("but its own channels", chain_look(parts) == 0 && !chain_irq(parts) && gives(parts, PARTS, -1));
+    expect("until the end", end_of_service(&parts[0], 0x45, answer) == 0 && chain_irq(parts));
+    expect("the other's bit stays", parts[1].image[MFP_IMAGE_ISRB] == 0x20 && gives(parts, 0, 0x45));
+}
+
+static void withdrawn(void)
+{
+    struct part parts[PARTS], before[PARTS];
+    uint8_t answer[MFP_ANSWER_BYTES];
+
+    start_chain(parts);
+    parts[0].owed = 24;
+    expect("a request", chain_look(parts) == 0 && chain_irq(parts));
+    write_register(&parts[0], MFP_IMRB, 0);
+    memcpy(before, parts, sizeof before);
+    expect("masked before the cycle", !chain_irq(parts) && gives(parts, PARTS, -1));
+    expect("it is still pending", stays(parts, before, PARTS) && parts[0].image[MFP_IMAGE_IPRB] == 0x20);
+    write_register(&parts[0], MFP_IERA, 1u << (MFP_CHANNEL_RECEIVE_FULL - 8));
+    write_register(&parts[0], MFP_IMRA, 1u << (MFP_CHANNEL_RECEIVE_FULL - 8));
+    expect("a channel of ISRA", event(&parts[0], MFP_RAISE, MFP_CHANNEL_RECEIVE_FULL, 0, answer) == 0 && gives(parts, 0, 0x4C));
+    expect("its end", parts[0].image[MFP_IMAGE_ISRA] == 0x10 && end_of_service(&parts[0], 0x4C, answer) == 0 &&
+                          parts[0].image[MFP_IMAGE_ISRA] == 0);
+}
+
+/* Which part is broken, and no vector of any. */
+static void broken_chain(void)
+{
+    struct part parts[PARTS], before[PARTS];
+    size_t giver = 7;
+    int vector = 7;
+
+    start_chain(parts);
+    parts[0].owed = 24;
+    expect("a request", chain_look(parts) == 0 && parts[0].irq);
+    parts[1].image[MFP_IMAGE_MODE_A] = 16;
+    memcpy(before, parts, sizeof before);
+    expect("the second part", chain_look(parts) == 256 + MFP_BAD_IMAGE);
+    expect("refused", chain_acknowledge(parts, &vector, &giver) == 256 + MFP_BAD_IMAGE);
+    expect("nothing was given", vector == 7 && giver == 7 && stays(parts, before, PARTS));
+    parts[0].image[0] = 0;
+    expect("the first part", chain_acknowledge(parts, &vector, &giver) == MFP_BAD_IMAGE_MARK);
+}
+
 int main(void)
 {
     levels();
@@ -264,6 +358,9 @@ int main(void)
     broken();
     sleeping();
     dozing();
+    chained();
+    withdrawn();
+    broken_chain();
     printf("%d passed, %d failed\n", passed, failed);
     return failed != 0;
 }

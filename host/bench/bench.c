@@ -1,15 +1,20 @@
 /*
  * bench.c - nanoseconds a record: mfp_run against the plain C, as a ratio
  * taken within one run. Calls of the two alternate and the best of many
- * rounds counts, so that a busy machine disturbs both alike.
+ * rounds counts, so that a busy machine disturbs both alike. Likewise
+ * nanoseconds a device: mfp_row_acknowledge against an mfp_run for each.
  *
- * bench                      prints the table
+ * bench                      prints the tables
  * bench once CALL TAPE [RECORDS [short]]
  *                            makes one call only, for counting instructions:
  *                            CALL is mfp or plain, TAPE a name of kinds below,
  *                            RECORDS 0 to 512. With short the answer buffer is
  *                            too short and mfp_run refuses the call when it
  *                            has loaded and checked, and run and saved nothing
+ * bench once row TAPE IMAGES
+ *                            one mfp_row_acknowledge over 1 to 8 images: TAPE
+ *                            is acknowledge, none requests, or vector, the
+ *                            last does
  *
  * Each call starts from the same image; the answer buffer is not cleared
  * between calls.
@@ -24,7 +29,7 @@
 #include "mfp.h"
 #include "plain.h"
 
-enum { RECORDS = MFP_TAPE_MAX / MFP_RECORD_BYTES, ROUNDS = 40, CALLS = 60 };
+enum { RECORDS = MFP_TAPE_MAX / MFP_RECORD_BYTES, ROUNDS = 40, CALLS = 60, ROW_CALLS = 4000 };
 
 /*
  * A device with all interrupts on and the four timers running. It is written
@@ -42,10 +47,12 @@ static uint8_t start[MFP_IMAGE_BYTES] = {
 
 static uint8_t tape[MFP_TAPE_MAX];
 static uint8_t answers[RECORDS * MFP_ANSWER_BYTES];
+static uint8_t row[MFP_ROW_MAX * MFP_IMAGE_BYTES];
 
 /* What a call lends: so many records, and answers too short by so many bytes. */
 static size_t records = RECORDS;
 static size_t lacking;
+static size_t row_length;
 
 static uint32_t seed;
 
@@ -200,6 +207,33 @@ static void by_plain(uint8_t *image)
     plain_run(image, tape, records, answers);
 }
 
+/* A row of so many devices, of which the last requests or none does. */
+static void make_row(size_t images, bool requested)
+{
+    size_t at;
+
+    row_length = images * MFP_IMAGE_BYTES;
+    for (at = 0; at < row_length; at += MFP_IMAGE_BYTES)
+        memcpy(row + at, start, MFP_IMAGE_BYTES);
+    if (requested)
+        row[row_length - MFP_IMAGE_BYTES + MFP_IMAGE_IPRB] = 0x20;
+}
+
+static void by_row(uint8_t *images)
+{
+    if (mfp_row_code(mfp_row_acknowledge(images, row_length)) != 0)
+        fail("mfp_row_acknowledge was refused");
+}
+
+/* The same by a record for each device: none requests but the last, so IEI is asserted for all. */
+static void by_records(uint8_t *images)
+{
+    size_t at;
+
+    for (at = 0; at < row_length; at += MFP_IMAGE_BYTES)
+        by_mfp(images + at);
+}
+
 /* Before anything is measured both must do the same work. */
 static void check_same(void)
 {
@@ -215,6 +249,18 @@ static void check_same(void)
         fail("mfp_run and the plain C differ");
 }
 
+static void check_same_row(void)
+{
+    uint8_t one[sizeof row], other[sizeof row];
+
+    memcpy(one, row, sizeof row);
+    memcpy(other, row, sizeof row);
+    by_row(one);
+    by_records(other);
+    if (memcmp(one, other, sizeof row) != 0)
+        fail("mfp_row_acknowledge and mfp_run differ");
+}
+
 static double now(void)
 {
     struct timespec t;
@@ -223,20 +269,21 @@ static double now(void)
     return 1e9 * (double)t.tv_sec + (double)t.tv_nsec;
 }
 
-/* Nanoseconds a record over some calls, if better than what was there. */
-static void measure(void (*run)(uint8_t *image), double *best)
+/* Nanoseconds of each of so many things a call, over some calls, if better than what was there. */
+static void measure(void (*run)(uint8_t *images), const uint8_t *from, size_t length, int calls,
+                    size_t things, double *best)
 {
     double begin = now();
     double each;
     int i;
 
-    for (i = 0; i < CALLS; i++) {
-        uint8_t image[MFP_IMAGE_BYTES];
+    for (i = 0; i < calls; i++) {
+        uint8_t images[sizeof row];
 
-        memcpy(image, start, sizeof image);
-        run(image);
+        memcpy(images, from, length);
+        run(images);
     }
-    each = (now() - begin) / CALLS / RECORDS;
+    each = (now() - begin) / calls / (double)things;
     if (each < *best)
         *best = each;
 }
@@ -252,14 +299,52 @@ static void print_table(void)
         check_same();
         mfp[kind] = plain[kind] = 1e9;
         for (round = 0; round < ROUNDS; round++) {
-            measure(by_mfp, &mfp[kind]);
-            measure(by_plain, &plain[kind]);
+            measure(by_mfp, start, sizeof start, CALLS, RECORDS, &mfp[kind]);
+            measure(by_plain, start, sizeof start, CALLS, RECORDS, &plain[kind]);
         }
         printf("%-12s %10.2f %10.2f %7.2f\n", kinds[kind].name, mfp[kind], plain[kind],
                mfp[kind] / plain[kind]);
     }
     printf("4294967295 clocks against 1: mfp_run %.2f, plain C %.2f\n",
            mfp[LONGEST] / mfp[ONE_CLOCK], plain[LONGEST] / plain[ONE_CLOCK]);
+}
+
+/* One line of the second table: a row of so many devices. */
+static void print_row(const char *name, size_t images, bool requested)
+{
+    double whole = 1e9, single = 1e9;
+    int round;
+
+    make_row(images, requested);
+    check_same_row();
+    for (round = 0; round < ROUNDS; round++) {
+        measure(by_row, row, row_length, ROW_CALLS, images, &whole);
+        measure(by_records, row, row_length, ROW_CALLS, images, &single);
+    }
+    printf("%-12s %10.2f %10.2f %7.2f\n", name, whole, single, whole / single);
+}
+
+static void print_rows(void)
+{
+    printf("\n%-12s %10s %10s %7s\n", "ns a device", "row", "mfp_run", "ratio");
+    records = 1;
+    put_acknowledge(0);
+    print_row("1, none", 1, false);
+    print_row("8, none", MFP_ROW_MAX, false);
+    print_row("1, last", 1, true);
+    print_row("8, last", MFP_ROW_MAX, true);
+}
+
+static void row_once(const char *name)
+{
+    bool requested = strcmp(name, "vector") == 0;
+
+    if (!requested && strcmp(name, "acknowledge") != 0)
+        fail("no such row");
+    if (records == 0 || records > MFP_ROW_MAX || lacking != 0)
+        fail("no such call");
+    make_row(records, requested);
+    by_row(row);
 }
 
 static void run_once(const char *call, const char *name)
@@ -283,16 +368,20 @@ int main(int argc, char **argv)
 {
     if (argc == 1) {
         print_table();
+        print_rows();
         return EXIT_SUCCESS;
     }
     if (argc < 4 || argc > 6 || strcmp(argv[1], "once") != 0)
-        fail("usage: bench [once mfp|plain TAPE [RECORDS [short]]]");
+        fail("usage: bench [once mfp|plain TAPE [RECORDS [short]] | once row TAPE IMAGES]");
     if (argc > 4)
         records = strtoul(argv[4], NULL, 10);
     if (argc > 5)
         lacking = 1;
     if (records > RECORDS || lacking > records)
         fail("no such call");
-    run_once(argv[2], argv[3]);
+    if (strcmp(argv[2], "row") == 0)
+        row_once(argv[3]);
+    else
+        run_once(argv[2], argv[3]);
     return EXIT_SUCCESS;
 }

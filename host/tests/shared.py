@@ -1,4 +1,4 @@
-"""shared.py LIBRARY: the two calls of a shared libmfp, by ctypes.
+"""shared.py LIBRARY: the calls of a shared libmfp, by ctypes.
 
 Reads a tape from standard input, runs it on a fresh device and prints what the
 replay program prints of it.
@@ -15,6 +15,8 @@ library = ctypes.CDLL(sys.argv[1])
 for call, lent in [(library.mfp_run, 3), (library.mfp_fresh, 1)]:
     call.argtypes = [ctypes.c_char_p, ctypes.c_size_t] * lent
     call.restype = ctypes.c_uint32
+library.mfp_row_acknowledge.argtypes = [ctypes.c_char_p, ctypes.c_size_t]
+library.mfp_row_acknowledge.restype = ctypes.c_uint64
 
 
 def line(index, answer):
@@ -31,6 +33,9 @@ def main():
     assert library.mfp_fresh(image, IMAGE_BYTES - 1) == 1
     assert image.raw == b"\xa5" * IMAGE_BYTES
     assert library.mfp_fresh(image, IMAGE_BYTES) == 0
+    assert image.raw == FRESH
+    assert library.mfp_row_acknowledge(image, IMAGE_BYTES - 1) == 1
+    assert library.mfp_row_acknowledge(image, IMAGE_BYTES) == 0x100 << 32
     assert image.raw == FRESH
 
     tape = sys.stdin.buffer.read()

@@ -363,16 +363,30 @@ fn costs_are_those_measured() {
     }
 }
 
-/// Of each result and each buffer lent to be written. The contracts of clients are demands, and that of
-/// `lent::event`, off which no plain promise can be read, is in a file of its own.
+/// Of each result and each buffer lent to be written. The contracts of clients are demands, and those of
+/// `lent::event` and `row::acknowledge`, off which no plain promise can be read, are in a file of their own.
 #[test]
 fn public_functions_promise_one_outcome() {
     let laws = read("crates/clients/proofs/Unique.antt");
+    let lent = read("crates/clients/proofs/Lent.antt");
     let mut seen = 0;
     for library in libraries().iter().filter(|library| *library != "clients") {
         for (path, line) in public_functions(library) {
-            if library == "lent" && path == "event" {
-                assert!(read("crates/clients/proofs/Lent.antt").contains("event.ensures-1"));
+            let by_walk = match (library.as_str(), path.as_str()) {
+                ("lent", "event") => [
+                    "event.ensures-1",
+                    "lent-event-fixed :",
+                    "lent-event-record-fixed :",
+                ],
+                ("row", "acknowledge") => [
+                    "row.ensures-1",
+                    "row-acknowledge-fixed :",
+                    "row-acknowledge-row-fixed :",
+                ],
+                _ => [""; 3],
+            };
+            if by_walk[0] != "" {
+                assert!(by_walk.iter().all(|words| lent.contains(words)), "{path}");
                 continue;
             }
             let name = format!("{library}-{path}")

@@ -4,11 +4,12 @@ use mathlib.Core.Path.{_≡_, refl, sym, ap, _∙_}
 use mathlib.Core.Bool.{Bool, true, false, cond, _&&_}
 use mathlib.Core.List.{List}
 use native.Mathlib.Omega.{arith}
-use lib.Dec.{eqb, leb}
+use lib.Dec.{eqb, leb, lit<}
 use lib.ListN.{length}
 use borrow.Author.Tests.{eq-eqb, ne-eqb, le-leb, lt-leb, leb-true, eqb-true}
 use Rattle.events.specs.declared.Refusal.{Refusal}
 use Rattle.events.specs.declared.Refusal.the-variants.{ImageLength, ImageMark, ImageRule, TapeLength, RecordMark, Kind, Operand, Serial, AnswerLength, RowLength}
+use Rattle.events.specs.Numbers.{numberOf}
 use Rattle.record.specs.declared.Decoded.{Decoded}
 use Rattle.record.specs.declared.Decoded.the-variants.{Valid, Invalid}
 use Rattle.checks.specs.declared.Checked.{Checked}
@@ -32,6 +33,19 @@ returned-above Operand i e = omega arith
 returned-above Serial i e = omega arith
 returned-above AnswerLength i e = omega arith
 returned-above RowLength i e = omega arith
+
+-- and fits a byte
+pub number-low : (r : Refusal) → numberOf r < 256
+number-low ImageLength = lit< tt
+number-low ImageMark = lit< tt
+number-low ImageRule = lit< tt
+number-low TapeLength = lit< tt
+number-low RecordMark = lit< tt
+number-low Kind = lit< tt
+number-low Operand = lit< tt
+number-low Serial = lit< tt
+number-low AnswerLength = lit< tt
+number-low RowLength = lit< tt
 
 -- the record refused is one of those checked
 bad-below : (tape : List ℕ) (i k : ℕ) (r : Refusal) (j : ℕ) → firstBad tape i k ≡ Bad r j → j < i + k

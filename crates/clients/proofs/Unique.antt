@@ -1,5 +1,5 @@
 -- Each public function promises one outcome: its contract is an equation, or several, between what it gives or leaves and a definition. One law, and a line for each function.
--- `lent::event` alone is not here but in Lent.antt: the checker reads no plain promise off a contract over a lent record. Assumes nothing.
+-- `lent::event` and `row::acknowledge` are not here but in Lent.antt: the checker reads no plain promise off a contract over lent records. Assumes nothing.
 use mathlib.Core.Path.{_≡_, sym, _∙_}
 use denote.Ref.{now}
 use Rattle.clients.specs.Unique.{FixesResult, FixesBuffer}
@@ -91,16 +91,19 @@ use Rattle.image.proofs.store.Reads as image-store
 use Rattle.image.proofs.save.Reads as image-save
 use Rattle.lent.proofs.handle.Reads as lent-handle
 use Rattle.lent.proofs.event_by_value.Reads as lent-event-by-value
+use Rattle.row.proofs.acknowledge_four.Reads as row-acknowledge-four
 use Rattle.answer.proofs.head.Reads as answer-head
 use Rattle.answer.proofs.put_answer.Reads as answer-put-answer
 use Rattle.tape.proofs.event_at.Reads as tape-event-at
 use Rattle.tape.proofs.record_at.Reads as tape-record-at
 use Rattle.checks.proofs.check.Reads as checks-check
 use Rattle.run.proofs.run.Reads as run-run
+use Rattle.row_images.proofs.acknowledge.Reads as row-images-acknowledge
 use Rattle.transcript.proofs.transcript.Reads as transcript-transcript
 use Rattle.transcript.proofs.lent_transcript.Reads as transcript-lent-transcript
 use Rattle.mfp.proofs.mfp_run.Reads as mfp-mfp-run
 use Rattle.mfp.proofs.mfp_fresh.Reads as mfp-mfp-fresh
+use Rattle.mfp.proofs.mfp_row_acknowledge.Reads as mfp-mfp-row-acknowledge
 
 -- the law: whatever a contract equates its outcome with, it leaves one
 one : {X : Type 0} {meant x y : X} → x ≡ meant → y ≡ meant → x ≡ y
@@ -399,6 +402,10 @@ lent-handle-fixed κs a x y s t p q = one p q
 lent-event-by-value-fixed : FixesResult lent-event-by-value.Learnt
 lent-event-by-value-fixed κs a x y s t p q = one p q
 
+-- ---- row
+row-acknowledge-four-fixed : FixesResult row-acknowledge-four.Learnt
+row-acknowledge-four-fixed κs a x y s t p q = λ i. record { row = one (p .1) (q .1) i; answer = one (p .0) (q .0) i }
+
 -- ---- answer
 answer-head-fixed : FixesResult answer-head.Learnt
 answer-head-fixed κs a x y s t p q = one p q
@@ -426,6 +433,13 @@ run-run-image-fixed κs a x y s t p q = one (p .1) (q .1)
 
 run-run-answers-fixed : FixesBuffer run-run.Learnt (λ κs s. now (s .1 .1 .0))
 run-run-answers-fixed κs a x y s t p q = one (p .2) (q .2)
+
+-- ---- row_images
+row-images-acknowledge-fixed : FixesResult row-images-acknowledge.Learnt
+row-images-acknowledge-fixed κs a x y s t p q = one (p .0) (q .0)
+
+row-images-acknowledge-buffer-fixed : FixesBuffer row-images-acknowledge.Learnt (λ κs s. now (s .0))
+row-images-acknowledge-buffer-fixed κs a x y s t p q = one (p .1) (q .1)
 
 -- ---- transcript
 transcript-transcript-fixed : FixesResult transcript-transcript.Learnt
@@ -455,3 +469,9 @@ mfp-mfp-fresh-fixed κs a x y s t p q = one (p .0) (q .0)
 
 mfp-mfp-fresh-buffer-fixed : FixesBuffer mfp-mfp-fresh.Learnt (λ κs s. now (s .0))
 mfp-mfp-fresh-buffer-fixed κs a x y s t p q = one (p .1) (q .1)
+
+mfp-mfp-row-acknowledge-fixed : FixesResult mfp-mfp-row-acknowledge.Learnt
+mfp-mfp-row-acknowledge-fixed κs a x y s t p q = one (p .0) (q .0)
+
+mfp-mfp-row-acknowledge-buffer-fixed : FixesBuffer mfp-mfp-row-acknowledge.Learnt (λ κs s. now (s .0))
+mfp-mfp-row-acknowledge-buffer-fixed κs a x y s t p q = one (p .1) (q .1)

@@ -19,4 +19,5 @@ pub mod Spans
 pub mod Tapes
 pub mod Acknowledges
 pub mod Rows
+pub mod RowImages
 pub mod Parts

@@ -9,6 +9,7 @@ pub mod Entries
 pub mod Tapes
 pub mod Acknowledges
 pub mod Rows
+pub mod RowImages
 pub mod Parts
 pub mod Accepted
 pub mod Raised

@@ -1,5 +1,5 @@
 -- Document 02, 1/13: "an acknowledge over a row of one to eight devices lent together", sentence by sentence, of the rules in crate row. Proved in proofs/Rows.antt.
-use Prim.Native.Nat.{ℕ, _+_, _%_, _<_, _≤_}
+use Prim.Native.Nat.{ℕ, _%_, _<_, _≤_}
 use mathlib.Core.Path.{_≡_}
 use mathlib.Core.Bool.{true, false, cond, not, _&&_}
 use mathlib.Core.List.{List, [], _∷_, _++_, map}

@@ -126,16 +126,23 @@ impl Lines {
     pub fn with_input(self, i: TimerInput, high: bool) -> Lines
         ensures { λ r. ⌜ r ≡ withInput i high self ⌝ }
     {
-        let mut l = self;
         match i {
-            TimerInput::Tai => {
-                l.tai = high;
-                l
-            }
-            TimerInput::Tbi => {
-                l.tbi = high;
-                l
-            }
+            TimerInput::Tai => Lines {
+                gpdr: self.gpdr,
+                aer: self.aer,
+                ddr: self.ddr,
+                levels: self.levels,
+                tai: high,
+                tbi: self.tbi,
+            },
+            TimerInput::Tbi => Lines {
+                gpdr: self.gpdr,
+                aer: self.aer,
+                ddr: self.ddr,
+                levels: self.levels,
+                tai: self.tai,
+                tbi: high,
+            },
         }
     }
 }

@@ -7,16 +7,13 @@ use native.Mathlib.Omega.{arith}
 use lib.Dec.{lit<}
 use lib.ListN.{length, take, drop}
 use lib.Seq.{drop-drop}
-use Rattle.events.specs.declared.Refusal.{Refusal}
-use Rattle.events.specs.declared.Refusal.the-variants.{ImageLength, ImageMark, ImageRule, TapeLength, RecordMark, Kind, Operand, Serial, AnswerLength, RowLength}
-use Rattle.events.specs.Numbers.{numberOf}
 use Rattle.device.specs.Whole.{imageRule}
 use Rattle.layout.specs.Layout.{imageBytes, deviceOf}
 use Rattle.image.specs.declared.Loaded.{Loaded}
 use Rattle.image.specs.declared.Loaded.the-variants.{Accepted, Refused}
 use Rattle.image.specs.Image.{loadOf}
 use Rattle.image.proofs.Loads.{read}
-use Rattle.checks.proofs.Checks.{returned-above}
+use Rattle.checks.proofs.Checks.{returned-above, number-low}
 use Rattle.row.specs.Rows.{allKeep}
 use Rattle.row_images.specs.RowImages.{rowOf, refused·at, firstRefused}
 use Rattle.row_images.specs.Private.{imageAt}
@@ -31,19 +28,6 @@ bad-code (Refused r) i later h = omega arith
 pub fine-code : (l : Loaded) (i later : ℕ) → refused·at l 0 0 ≡ 0 → refused·at l i later ≡ later
 fine-code (Accepted d) i later e = refl
 fine-code (Refused r) i later e = absurd (returned-above r 0 e)
-
--- a refusal's number fits a byte
-number-low : (r : Refusal) → numberOf r < 256
-number-low ImageLength = lit< tt
-number-low ImageMark = lit< tt
-number-low ImageRule = lit< tt
-number-low TapeLength = lit< tt
-number-low RecordMark = lit< tt
-number-low Kind = lit< tt
-number-low Operand = lit< tt
-number-low Serial = lit< tt
-number-low AnswerLength = lit< tt
-number-low RowLength = lit< tt
 
 pub code-low : (l : Loaded) → refused·at l 0 0 < 256
 code-low (Accepted d) = lit< tt

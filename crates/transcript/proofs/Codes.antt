@@ -8,9 +8,7 @@ use lib.Dec.{eqb, lit<}
 use lib.ListN.{length}
 use borrow.Author.Tests.{leb-true, le-leb}
 use Rattle.bits.proofs.Bits.{halves}
-use Rattle.events.specs.declared.Refusal.{Refusal}
-use Rattle.events.specs.declared.Refusal.the-variants.{ImageLength, ImageMark, ImageRule, TapeLength, RecordMark, Kind, Operand, Serial, AnswerLength, RowLength}
-use Rattle.events.specs.Numbers.{numberOf}
+use Rattle.events.specs.declared.Refusal.the-variants.{TapeLength}
 use Rattle.record.specs.Records.{recordBytes}
 use Rattle.answer.specs.Answers.{answerBytes}
 use Rattle.checks.specs.declared.Checked.{Checked}
@@ -18,21 +16,9 @@ use Rattle.checks.specs.declared.Checked.the-variants.{Fine, Bad}
 use Rattle.tape.specs.Tapes.{tapeMost, fitting, records}
 use Rattle.checks.specs.Checks.{firstBad}
 use Rattle.checks.specs.Checks.{returned, afterRecords, tapeResult}
-use Rattle.checks.proofs.Checks.{index-below}
+use Rattle.checks.proofs.Checks.{index-below, number-low}
 use Rattle.transcript.specs.Transcript.{recordsMost, codeOf}
 use Rattle.transcript.specs.Private.{answersMost}
-
-number-low : (r : Refusal) → numberOf r < 256
-number-low ImageLength = lit< tt
-number-low ImageMark = lit< tt
-number-low ImageRule = lit< tt
-number-low TapeLength = lit< tt
-number-low RecordMark = lit< tt
-number-low Kind = lit< tt
-number-low Operand = lit< tt
-number-low Serial = lit< tt
-number-low AnswerLength = lit< tt
-number-low RowLength = lit< tt
 
 module _ (tape : List ℕ) where
   abbrev n : ℕ

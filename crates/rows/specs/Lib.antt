@@ -1,2 +1,2 @@
--- What the program prints.
-pub mod Lines
+-- What the program makes and prints.
+pub mod Rows

@@ -8,7 +8,7 @@ use interrupts::Interrupts;
 use libc::STDOUT_FILENO;
 use row::RowAnswer;
 ghost use mathlib.Core.Path.{_≡_};
-ghost use Rattle.rows.specs.Lines.{givenLine, refusedLine};
+ghost use Rattle.rows.specs.Rows.{deviceWith, givenLine, refusedLine};
 
 // Channel 12, on which the receiver asks, and channel 15, above it.
 const RECEIVER: u16 = 4096;
@@ -16,7 +16,9 @@ const RECEIVER: u16 = 4096;
 const TOP: u16 = 32768;
 
 // A fresh device with these channels pending and in service; all are enabled and unmasked.
-fn device(pending: u16, service: u16, vector: u8) -> Device {
+fn device(pending: u16, service: u16, vector: u8) -> Device
+    ensures { λ r. ⌜ r ≡ deviceWith pending service vector ⌝ }
+{
     let mut d = Device::fresh();
     let i = Interrupts {
         enabled: 65535,

@@ -6,7 +6,7 @@ use mathlib.Core.List.{List, [], _∷_}
 use borrow.Author.Needs.{needs}
 use lib.ListN.{getD}
 use Rattle.words.specs.Words.{digit, hexByte, middleOf}
-use Rattle.rows.specs.Lines.{newLine}
+use Rattle.rows.specs.Rows.{newLine}
 use Rattle.rows.proofs.given_line.Statement.{statement}
 use Rattle.rows.proofs.given_line.Tie as tie
 

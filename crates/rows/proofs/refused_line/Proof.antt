@@ -5,7 +5,7 @@ use mathlib.Core.Path.{ap}
 use mathlib.Core.List.{[], _∷_}
 use borrow.Author.Needs.{needs}
 use Rattle.words.specs.Words.{digit}
-use Rattle.rows.specs.Lines.{newLine}
+use Rattle.rows.specs.Rows.{newLine}
 use Rattle.rows.proofs.refused_line.Statement.{statement}
 use Rattle.rows.proofs.refused_line.Tie as tie
 

@@ -1,10 +1,16 @@
--- The lines of the program: what one acknowledge over a row answers.
+-- The devices of the program, and its lines: what one acknowledge over a row answers.
 use Prim.Native.Nat.{ℕ, _/_, _%_}
 use Prim.Native.Char.{code}
 use mathlib.Core.List.{List, [], _∷_, _++_}
 use Rattle.events.specs.declared.Refusal.{Refusal}
 use Rattle.events.specs.Numbers.{numberOf}
+use Rattle.device.specs.declared.Device.{Device}
+use Rattle.device.specs.Whole.{freshDevice, withInterrupts}
 use Rattle.words.specs.Words.{digit, hexByte}
+
+-- a fresh device with these channels pending and in service, all enabled and unmasked
+abbrev pub deviceWith : ℕ → ℕ → ℕ → Device
+deviceWith pending service vector = withInterrupts (record { enabled = 65535; pending = pending; service = service; mask = 65535; vector = vector }) freshDevice
 
 abbrev pub newLine : ℕ
 newLine = 10

@@ -19,6 +19,18 @@ ghost use Rattle.row.specs.Rows.{rowMost, acknowledgedRow, givenFrom, devicesOf
 ghost use Rattle.row_images.specs.RowImages.{rowOf, imagesOf, refused·at, firstRefused, rowCode, toldOf, rowResult, rowImages};
 ghost use Rattle.row_images.specs.Private.{imageAt, acknowledgeRecord, stepAt, putAt};
 
+// The mark and the kind of an acknowledge's record, and the places of class and value in an answer: a
+// wrong one is not proved.
+const RECORD_MARK_0: u8 = 77;
+
+const RECORD_MARK_1: u8 = 69;
+
+const ACKNOWLEDGE: u8 = 6;
+
+const CLASS: usize = 2;
+
+const VALUE: usize = 3;
+
 // What an image's acknowledge answers: class and value.
 struct Answered {
     class: u8,
@@ -79,7 +91,16 @@ fn check(images: &[u8]) -> u32
 fn acknowledge_record(iei: bool) -> [u8; RECORD_BYTES]
     ensures { λ r. ⌜ r ≡ acknowledgeRecord iei ⌝ }
 {
-    [77, 69, 6, bits::bit_value(iei, 1), 0, 0, 0, 0]
+    [
+        RECORD_MARK_0,
+        RECORD_MARK_1,
+        ACKNOWLEDGE,
+        bits::bit_value(iei, 1),
+        0,
+        0,
+        0,
+        0,
+    ]
 }
 
 // The acknowledge of the image that starts at this byte.
@@ -93,8 +114,8 @@ fn acknowledge_image(images: &mut [u8], at: usize, iei: bool) -> Answered
     let mut answers = [0u8; ANSWER_BYTES];
     run::run(&mut images[at..end], &tape, &mut answers);
     Answered {
-        class: answers[2],
-        value: answers[3],
+        class: answers[CLASS],
+        value: answers[VALUE],
     }
 }
 

@@ -31,6 +31,7 @@ pub const CASES: &[Case] = &[
     ("row: acknowledged until all pass on", until_passed_on),
     ("row: a row of one is an acknowledge", row_of_one),
     ("row: each device as by a record of its own", by_records),
+    ("hard: chained parts", chained),
 ];
 
 type Image = [u8; IMAGE_BYTES];
@@ -447,4 +448,10 @@ fn by_records(t: &mut Trial) {
             );
         }
     }
+}
+
+/// A service above holds nothing back, and of two requesters the lower one waits.
+fn chained(t: &mut Trial) {
+    t.gives_in(&[(0, 0x8000), (0x0120, 0), (0x0120, 0)], 1, 8);
+    t.gives_in(&[(0, 0x8000), (0x0020, 0x0100), (0x0120, 0)], 2, 8);
 }

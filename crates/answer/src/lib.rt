@@ -1,4 +1,6 @@
 // The bytes of an answer, and where they are put. The layout stands in specs/Answers.antt.
+#![tactic(auto)]
+
 ghost use Rattle.std.specs.Prelude.{◌≡◌, ◌++◌, ◌+◌, ◌≤◌, length, take, drop};
 ghost use Rattle.answer.specs.Answers.{answer_bytes, head_of, answer_of};
 
@@ -36,7 +38,7 @@ fn put(b: &[u8], answers: &mut [u8], at: usize)
     ensures { answers.new ≡ take at answers.old ++ b.now ++ drop (at + length b.now) answers.old }
 {
     let end = at + b.len();
-    bytes::copy(b, &mut answers[at..end]);
+    answers[at..end].copy_from_slice(b);
 }
 
 // Writes an answer at byte `at` and leaves every other byte. Each count is put by itself: the compiler

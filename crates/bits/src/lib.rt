@@ -1,5 +1,7 @@
 // Truth values, bits and bytes in code: two truth values at once, a bit of a byte, a number in four
 // bytes. Every function is total.
+#![tactic(auto)]
+
 ghost use Rattle.std.specs.Prelude.{◌≡◌, ◌&&◌, []};
 ghost use Rattle.bits.specs.Bits.{bit_value};
 ghost use Rattle.bits.specs.Bytes.{four, number};

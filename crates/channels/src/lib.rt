@@ -1,20 +1,22 @@
 // Lines and channels, sets of channels, and a set's two registers. A set is a u16 in which channel c is
 // bit c. The rules stand in specs/Channels.antt. A line number and a channel number are kept apart.
 // Every function is total.
+#![tactic(auto)]
+
 ghost use Rattle.std.specs.Prelude.{◌≡◌, ℕ, ◌/◌, ◌%◌, ◌^◌, ◌<◌};
 ghost use Rattle.channels.specs.Channels.{set_of, channel_of, half, with_half};
 ghost use Rattle.channels.specs.Raises.{only_if};
 
 // The number of a general-purpose line, 0 to 7.
-#[derive(Drop)]
+#[derive(Clone, Copy)]
 pub struct Line(pub u8);
 
 // The number of an interrupt channel, 0 to 15.
-#[derive(Drop)]
+#[derive(Clone, Copy)]
 pub struct Channel(pub u8);
 
 // The two registers of a set: A holds channels 15 to 8, B channels 7 to 0.
-#[derive(Drop)]
+#[derive(Clone, Copy)]
 pub enum Half {
     A,
     B,

@@ -1,5 +1,7 @@
 // The check of a whole tape, in the paper's order. The rules stand in specs/. Everything is checked before
 // anything is run.
+#![tactic(auto)]
+
 ghost use Rattle.std.specs.Prelude.{◌≡◌, ◌+◌, ◌*◌, ◌/◌, ◌≤◌, ◌<◌, length};
 ghost use Rattle.record.specs.Records.{record_bytes};
 ghost use Rattle.tape.specs.Tapes.{tape_most};
@@ -11,7 +13,7 @@ use record::{RECORD_BYTES, Verdict};
 use tape::TAPE_MOST;
 
 // What the check of a tape's records finds: nothing, or the first refusal and its record's index.
-#[derive(Drop)]
+#[derive(Clone, Copy)]
 pub enum Checked {
     Fine,
     Bad(Refusal, usize),

@@ -1,6 +1,8 @@
 // Clients of the public calls: small functions over nothing but the calls, whose contracts are the
 // demands. Each is proved from what the calls Promise, so a Promise that is weakened breaks a proof
 // here. No program needs this crate.
+#![tactic(auto)]
+
 ghost use Rattle.std.specs.Prelude.{◌≡◌, length};
 ghost use Rattle.layout.specs.Layout.{image_bytes};
 ghost use Rattle.demands.specs.Refusals.{Given, Ends};
@@ -10,21 +12,21 @@ use device::Device;
 use image::{Loaded, Saved};
 
 // What two runs returned.
-#[derive(Drop)]
+#[derive(Clone, Copy)]
 pub struct Codes {
     pub cut: u32,
     pub joined: u32,
 }
 
 // What a save and a load returned.
-#[derive(Drop)]
+#[derive(Clone, Copy)]
 pub struct SavedLoaded {
     pub saved: Saved,
     pub loaded: Loaded,
 }
 
 // What a fresh image and a run on it returned.
-#[derive(Drop)]
+#[derive(Clone, Copy)]
 pub struct FreshRun {
     pub fresh: u32,
     pub run: u32,

@@ -1,6 +1,8 @@
 // Any number of clocks of one timer at once, without a loop: its position is a countdown of clocks, its
 // counter one of count pulses. The rules are crate timer's, one clock at a time; the countdown itself is
 // specs/Countdown.antt.
+#![tactic(auto)]
+
 ghost use Rattle.std.specs.Prelude.{◌≡◌, ◌-◌, ◌≤◌};
 ghost use Rattle.timer.specs.Timers.{divisor, clocks, timeouts};
 ghost use Rattle.countdown.specs.Countdown.{left, ran_out, span, to_go, toggled, pulses_in, position_after, timeouts_in, counter_after};
@@ -8,28 +10,28 @@ ghost use Rattle.countdown.specs.Countdown.{left, ran_out, span, to_go, toggled,
 use timer::Timer;
 
 // A timer after some clocks, and the timeouts that they made.
-#[derive(Drop)]
+#[derive(Clone, Copy)]
 pub struct Clocked {
     pub timer: Timer,
     pub timeouts: u32,
 }
 
 // A countdown after some units: how often it ran out, and after how many units it next will.
-#[derive(Drop)]
+#[derive(Clone, Copy)]
 struct Counted {
     times: u32,
     left: u32,
 }
 
 // A timer's position after some clocks, and the count pulses that they gave.
-#[derive(Drop)]
+#[derive(Clone, Copy)]
 struct Along {
     pulses: u32,
     position: u8,
 }
 
 // A timer's counter after some count pulses, and the timeouts that they made.
-#[derive(Drop)]
+#[derive(Clone, Copy)]
 struct Down {
     timeouts: u32,
     counter: u8,

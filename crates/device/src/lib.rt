@@ -1,6 +1,8 @@
 // The device by value: lines and timer inputs, interrupt controller, four timers; and what a change of
 // its signals does. The rules stand in specs/ and in the crates of the parts. Every function is total;
 // an event is crate step.
+#![tactic(auto)]
+
 ghost use Rattle.std.specs.Prelude.{◌≡◌};
 ghost use Rattle.device.specs.Whole.{reset_device, fresh_device, irq_of, shown_outputs, read_of, image_rule};
 ghost use Rattle.device.specs.Signals.{counts, signalled, signal_step};
@@ -14,14 +16,14 @@ use lines::{Lines, TimerInput};
 use timeouts::Timeouts;
 use timers::Timers;
 
-#[derive(Drop)]
+#[derive(Clone, Copy)]
 pub struct Device {
     pub lines: Lines,
     pub interrupts: Interrupts,
     pub timers: Timers,
 }
 
-#[derive(Drop)]
+#[derive(Clone, Copy)]
 pub struct Stepped {
     pub device: Device,
     pub answer: Answer,

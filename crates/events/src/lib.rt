@@ -1,5 +1,7 @@
 // Events, answers and refusals by value: the types that the device and the tape share, and this
 // paper's numbers for them. The rules stand in specs/. Every function is total.
+#![tactic(auto)]
+
 ghost use Rattle.std.specs.Prelude.{◌≡◌};
 ghost use Rattle.lines.specs.Registers.{is_line};
 ghost use Rattle.events.specs.Numbers.{class_of, value_of, number_of};
@@ -11,14 +13,14 @@ use lines::{LineRegister, TimerInput};
 use timers::TimerRegister;
 
 // A register, by the part of the device that has it.
-#[derive(Drop)]
+#[derive(Clone, Copy)]
 pub enum Register {
     OfLines(LineRegister),
     OfInterrupts(InterruptRegister),
     OfTimers(TimerRegister),
 }
 
-#[derive(Drop)]
+#[derive(Clone, Copy)]
 pub enum Event {
     Reset,
     Read(Register),
@@ -30,7 +32,7 @@ pub enum Event {
     Raise(Channel),
 }
 
-#[derive(Drop)]
+#[derive(Clone, Copy)]
 pub enum Answer {
     Done,
     Data(u8),
@@ -40,7 +42,7 @@ pub enum Answer {
 }
 
 // The refusals of document 01 in its order, then the row's (document 02, 1/13).
-#[derive(Drop)]
+#[derive(Clone, Copy)]
 pub enum Refusal {
     ImageLength,
     ImageMark,

@@ -1,5 +1,7 @@
 // The 32-byte image of a device: load, save, store. The rules stand in specs/Image.antt, the table of
 // bytes in crate layout. No public function has a `requires`.
+#![tactic(auto)]
+
 ghost use Rattle.std.specs.Prelude.{◌≡◌, ◌+◌, ◌<◌, length};
 ghost use Rattle.bits.specs.Bits.{bit_value};
 ghost use Rattle.layout.specs.Layout.{image_bytes, image_of};
@@ -15,13 +17,13 @@ const MARK_0: u8 = 77;
 
 const MARK_1: u8 = 49;
 
-#[derive(Drop)]
+#[derive(Clone, Copy)]
 pub enum Loaded {
     Accepted(Device),
     Refused(Refusal),
 }
 
-#[derive(Drop)]
+#[derive(Clone, Copy)]
 pub enum Saved {
     Written,
     NotWritten(Refusal),
@@ -127,7 +129,7 @@ pub fn store(d: Device, image: &mut [u8])
 {
     if image.len() == IMAGE_BYTES {
         let b = bytes_of(d);
-        bytes::copy(&b, image);
+        image.copy_from_slice(&b);
     }
 }
 

@@ -1,13 +1,15 @@
 // The interrupt controller's registers: four sets of sixteen channels and the vector register, by value.
 // The rules stand in specs/Interrupts.antt; those of requests and of the acknowledge are crate requests.
 // A method hands back the interrupts as they then are, written out whole (D87). Every function is total.
+#![tactic(auto)]
+
 ghost use Rattle.std.specs.Prelude.{◌≡◌};
 ghost use Rattle.interrupts.specs.Interrupts.{kept, S, enabled_written, pending_written, service_written, mask_written, vector_written, vector_bits, interrupt_read, interrupt_written, clear_interrupts, raised, interrupt_rule};
 
 use channels::Half;
 
 // The registers of the interrupt controller.
-#[derive(Drop)]
+#[derive(Clone, Copy)]
 pub enum InterruptRegister {
     Ier(Half),
     Ipr(Half),
@@ -16,7 +18,7 @@ pub enum InterruptRegister {
     Vr,
 }
 
-#[derive(Drop)]
+#[derive(Clone, Copy)]
 pub struct Interrupts {
     pub enabled: u16,
     pub pending: u16,

@@ -1,5 +1,7 @@
 // The parts of a device read from the 32 bytes of an image. The table of bytes stands in
 // specs/Layout.antt, both ways. Each reader asks for a whole image.
+#![tactic(auto)]
+
 ghost use Rattle.std.specs.Prelude.{◌≡◌, ◌+◌, ◌*◌, ◌<◌, length};
 ghost use Rattle.channels.specs.Channels.{has};
 ghost use Rattle.layout.specs.Layout.{image_bytes, lines_from, interrupts_from, timers_from, timer_from};

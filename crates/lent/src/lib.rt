@@ -1,5 +1,7 @@
 // The device record as a caller in Rattle has it: an event takes the record by value, or alters it where
 // it stands, lent. These are the entries that refuse; the rules of an event are crate step's.
+#![tactic(auto)]
+
 ghost use Rattle.std.specs.Prelude.{◌≡◌};
 ghost use Rattle.lent.specs.Handling.{handled_of};
 
@@ -7,13 +9,13 @@ use device::Device;
 use events::{Answer, Event, Refusal};
 use timeouts::Timeouts;
 
-#[derive(Drop)]
+#[derive(Clone, Copy)]
 pub enum Outcome {
     Answered(Answer, Timeouts),
     Refused(Refusal),
 }
 
-#[derive(Drop)]
+#[derive(Clone, Copy)]
 pub struct Handled {
     pub device: Device,
     pub outcome: Outcome,

@@ -1,11 +1,13 @@
 // The eight lines and the two timer inputs, by value: GPDR, AER, DDR and the levels. The rules stand in
 // specs/Registers.antt; what a change of signals raises is crate signals. Every function is total.
+#![tactic(auto)]
+
 ghost use Rattle.std.specs.Prelude.{◌≡◌};
 ghost use Rattle.lines.specs.Registers.{line_read, line_written, with_level, with_input, reset_lines, fresh_lines};
 
 use channels::Line;
 
-#[derive(Drop)]
+#[derive(Clone, Copy)]
 pub struct Lines {
     pub gpdr: u8,
     pub aer: u8,
@@ -15,14 +17,14 @@ pub struct Lines {
     pub tbi: bool,
 }
 
-#[derive(Drop)]
+#[derive(Clone, Copy)]
 pub enum LineRegister {
     Gpdr,
     Aer,
     Ddr,
 }
 
-#[derive(Drop)]
+#[derive(Clone, Copy)]
 pub enum TimerInput {
     Tai,
     Tbi,

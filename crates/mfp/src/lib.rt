@@ -1,4 +1,6 @@
 // The C face: thin calls on lent byte buffers, and nothing else. host/include/mfp.h declares them.
+#![tactic(auto)]
+
 ghost use Rattle.std.specs.Prelude.{◌≡◌};
 ghost use Rattle.run.specs.Runs.{result_of, image_after, answers_after};
 ghost use Rattle.row_images.specs.RowImages.{row_result, row_images};

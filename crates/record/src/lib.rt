@@ -1,5 +1,7 @@
 // One record in the bytes of a tape: what the check finds of it. The rules stand in specs/Records.antt, what
 // check and run keep of them in Verdicts and Taken.
+#![tactic(auto)]
+
 ghost use Rattle.std.specs.Prelude.{◌≡◌, cond, ◌+◌, ◌≤◌, leb, eqb, length};
 ghost use Rattle.record.specs.Records.{record_bytes, reading, input_of, operand, event_in, marked, meant, raw_at};
 ghost use Rattle.record.specs.Verdicts.{verdict_of};
@@ -14,14 +16,14 @@ pub const RECORD_BYTES: usize = 8;
 const MARK: u16 = 77 + 256 * 69;
 
 // What a record means, for the definitions: no function makes one.
-#[derive(Drop)]
+#[derive(Clone, Copy)]
 pub enum Decoded {
     Valid(Event),
     Invalid(Refusal),
 }
 
 // What the check finds of a record.
-#[derive(Drop)]
+#[derive(Clone, Copy)]
 pub enum Verdict {
     Sound,
     Wrong(Refusal),

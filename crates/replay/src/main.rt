@@ -1,6 +1,8 @@
 // The replay program: reads a tape from standard input and prints what it does to a fresh device.
 // One byte more than the longest tape is enough to see that an input is too long. It has no exit status: a
 // failed write it can only tell on standard error.
+#![tactic(auto)]
+
 use libc::{STDERR_FILENO, STDIN_FILENO, STDOUT_FILENO};
 use tape::TAPE_MOST;
 use transcript::ENOUGH;

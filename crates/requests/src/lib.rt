@@ -1,6 +1,8 @@
 // Requests and the acknowledge: which channel requests, whether IRQ is asserted, and what an acknowledge
 // gives and leaves. The rules stand in specs/Requests.antt. Interrupts are handed back written out whole
 // (D87). Every function is total.
+#![tactic(auto)]
+
 ghost use Rattle.std.specs.Prelude.{◌≡◌, ◌^◌, ◌<◌, ◌&&◌, ltb};
 ghost use Rattle.std.specs.Int.Bits.{bit_and};
 ghost use Rattle.channels.specs.Channels.{has};
@@ -11,21 +13,21 @@ use channels::Channel;
 use interrupts::Interrupts;
 
 // The highest requesting channel, if any.
-#[derive(Drop)]
+#[derive(Clone, Copy)]
 pub enum Requesting {
     By(Channel),
     Nobody,
 }
 
 // What an acknowledge gives.
-#[derive(Drop)]
+#[derive(Clone, Copy)]
 pub enum Reply {
     Vector(u8),
     PassedOn,
     Held,
 }
 
-#[derive(Drop)]
+#[derive(Clone, Copy)]
 pub struct Acknowledged {
     pub interrupts: Interrupts,
     pub reply: Reply,

@@ -1,6 +1,8 @@
 // A row of devices chained by IEI and IEO, acknowledged together. The rules stand in specs/Rows.antt. All
 // decisions are those of functions by value over a scan; the walk over the lent row copies a device out,
 // takes a turn, and stores the device of that turn, each time (02, 2/13 will alter every device).
+#![tactic(auto)]
+
 ghost use Rattle.std.specs.Prelude.{◌≡◌, ◌<◌};
 ghost use Rattle.row.specs.declared.RowAnswer.TheVariants.{AllPassed};
 ghost use Rattle.row.specs.Rows.{ieo, given_or, row_answer, row_after};
@@ -13,7 +15,7 @@ use events::{Answer, Refusal};
 pub const ROW_MOST: usize = 8;
 
 // Which device gave which vector; or that all passed on; or a refusal, with the index of its device.
-#[derive(Drop)]
+#[derive(Clone, Copy)]
 pub enum RowAnswer {
     Given(usize, u8),
     AllPassed,
@@ -22,7 +24,7 @@ pub enum RowAnswer {
 
 // How far a row of n is gone along: while `go` is set, `at` is the next device. First each is checked;
 // then, `checking` no more, each takes its acknowledge, with this IEI.
-#[derive(Drop)]
+#[derive(Clone, Copy)]
 struct Scan {
     go: bool,
     checking: bool,
@@ -32,7 +34,7 @@ struct Scan {
     answer: RowAnswer,
 }
 
-#[derive(Drop)]
+#[derive(Clone, Copy)]
 struct Turned {
     scan: Scan,
     device: Device,
@@ -187,7 +189,7 @@ pub fn acknowledge(row: &mut [Device]) -> RowAnswer
     s.answer
 }
 
-#[derive(Drop)]
+#[derive(Clone, Copy)]
 pub struct Four {
     pub row: [Device; 4],
     pub answer: RowAnswer,

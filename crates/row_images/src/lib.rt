@@ -1,6 +1,8 @@
 // A row of devices as images one after another, acknowledged together. The rules stand in
 // specs/RowImages.antt. Each image is checked by the run of no record, on a copy, and acknowledged by the
 // run of one record: so that the C call has one caller of each step below it (docs/BENCHMARKS.md).
+#![tactic(auto)]
+
 ghost use Rattle.std.specs.Prelude.{◌≡◌, ◌++◌, ◌+◌, ◌*◌, ◌≤◌, length, drop};
 ghost use Rattle.events.specs.Numbers.{class_of, value_of};
 ghost use Rattle.layout.specs.Layout.{image_bytes, device_of};
@@ -29,7 +31,7 @@ const CLASS: usize = 2;
 const VALUE: usize = 3;
 
 // What an image's acknowledge answers: class and value.
-#[derive(Drop)]
+#[derive(Clone, Copy)]
 struct Answered {
     class: u8,
     value: u8,
@@ -45,7 +47,7 @@ fn check_image(images: &[u8], at: usize) -> u32
     let end = at + IMAGE_BYTES;
     let mut copy = [0u8; IMAGE_BYTES];
     let mut answers = [0u8; ANSWER_BYTES];
-    bytes::copy(&images[at..end], &mut copy);
+    copy.copy_from_slice(&images[at..end]);
     run::run(&mut copy, &images[at..at], &mut answers)
 }
 

@@ -1,6 +1,8 @@
 // Four chained parts, acknowledged until none of them requests, and a row that is refused. A line tells
 // what one acknowledge over the row answers: G, the device and its vector; P, all passed on; R, the
 // refusal and its device.
+#![tactic(auto)]
+
 ghost use Rattle.std.specs.Prelude.{◌≡◌};
 ghost use Rattle.rows.specs.Rows.{device_with, given_line, refused_line};
 

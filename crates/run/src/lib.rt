@@ -1,4 +1,6 @@
 // The run of a tape on an image's device, after the check of both. The rules stand in specs/.
+#![tactic(auto)]
+
 ghost use Rattle.std.specs.Prelude.{◌≡◌, ◌++◌, ◌*◌, ◌≤◌, length, drop};
 ghost use Rattle.record.specs.Records.{record_bytes};
 ghost use Rattle.answer.specs.Answers.{answer_bytes};

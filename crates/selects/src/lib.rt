@@ -1,5 +1,7 @@
 // Register selects: which register a read or a write of rs is of. The table stands in specs/Selects.antt.
 // Every function is total.
+#![tactic(auto)]
+
 ghost use Rattle.std.specs.Prelude.{◌≡◌};
 ghost use Rattle.selects.specs.Selects.{register_of, read_select, write_select, known_of};
 
@@ -10,7 +12,7 @@ use lines::LineRegister;
 use timers::TimerRegister;
 
 // What a register select names.
-#[derive(Drop)]
+#[derive(Clone, Copy)]
 pub enum Selected {
     Known(Register),
     SerialPort,

@@ -1,5 +1,7 @@
 // Signals of the lines and the timer inputs, and the channels that a change of them raises. The rules
 // stand in specs/Signals.antt. Every function is total.
+#![tactic(auto)]
+
 ghost use Rattle.std.specs.Prelude.{◌≡◌, ℕ, ◌<◌};
 ghost use Rattle.channels.specs.Channels.{has};
 ghost use Rattle.channels.specs.Raises.{raised_by};

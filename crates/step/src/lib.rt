@@ -1,6 +1,8 @@
 // One event of the device, by value: what it does, answers and counts. The rules stand in specs/. An
 // event is begun and then finished, so that each change in which a timer input may take part stands in
 // one place. Every function is total; the entry that refuses is crate lent's.
+#![tactic(auto)]
+
 ghost use Rattle.std.specs.Prelude.{◌≡◌};
 ghost use Rattle.events.specs.declared.Event.TheVariants.{Write, Clocks, Acknowledge};
 ghost use Rattle.events.specs.declared.Register.TheVariants.{OfLines};
@@ -15,7 +17,7 @@ use requests::Reply;
 use timeouts::Timeouts;
 
 // An event begun: up to its signals, which are to become those of these lines, or whole.
-#[derive(Drop)]
+#[derive(Clone, Copy)]
 enum Begun {
     Signals(Lines),
     Whole(Stepped),

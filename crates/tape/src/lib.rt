@@ -1,5 +1,7 @@
 // The tape: its records found in the bytes, and what each means. The rules stand in specs/. The check of a
 // whole tape is crate checks; the check and the run keep to one meaning of a record.
+#![tactic(auto)]
+
 ghost use Rattle.std.specs.Prelude.{◌≡◌, ◌+◌, ◌≤◌, length};
 ghost use Rattle.record.specs.Records.{record_bytes, raw_at};
 ghost use Rattle.record.specs.Taken.{taken};
@@ -12,7 +14,7 @@ use record::{RECORD_BYTES, Verdict};
 pub const TAPE_MOST: usize = 4096;
 
 // What a tape has at an index.
-#[derive(Drop)]
+#[derive(Clone, Copy)]
 pub enum Found {
     Means(Event),
     Refused(Refusal),

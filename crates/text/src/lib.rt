@@ -1,6 +1,8 @@
 // The lines of the replay program as bytes at the start of a buffer that the caller lends. The text
 // stands in specs/Lines.antt. A buffer of LINE_MOST bytes holds every line; a shorter one stays as it
 // was.
+#![tactic(auto)]
+
 ghost use Rattle.std.specs.Prelude.{◌≡◌, [], ◌∷◌, ◌++◌, ◌+◌, ◌≤◌, ◌<◌, length};
 ghost use Rattle.text.specs.Lines.{decimal, counts_of, line_of, refused_line, written, written_length, Counts};
 ghost use Rattle.text.specs.Lines.{counts_most};

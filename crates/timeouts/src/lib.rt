@@ -1,5 +1,7 @@
 // Clocks and count pulses of the four timers, and the timeouts that they make, by value. The rules stand
 // in specs/Clocks.antt. Every function is total.
+#![tactic(auto)]
+
 ghost use Rattle.std.specs.Prelude.{◌≡◌, cond};
 ghost use Rattle.timer.specs.Timers.{pulsed};
 ghost use Rattle.channels.specs.Raises.{raised_by};
@@ -10,7 +12,7 @@ use timer::Timer;
 use timers::Timers;
 
 // How many timeouts each timer made.
-#[derive(Drop)]
+#[derive(Clone, Copy)]
 pub struct Timeouts {
     pub a: u32,
     pub b: u32,
@@ -19,7 +21,7 @@ pub struct Timeouts {
 }
 
 // The timers after clocks or count pulses, and the timeouts that these made.
-#[derive(Drop)]
+#[derive(Clone, Copy)]
 pub struct Advanced {
     pub timers: Timers,
     pub timeouts: Timeouts,

@@ -2,10 +2,12 @@
 // output. The rules stand in specs/Timers.antt, one clock at a time; any number of clocks at once is
 // crate countdown. A method takes the timer and hands back the timer as it then is, written out whole
 // (D87). Every one is total: it asks nothing of its timer.
+#![tactic(auto)]
+
 ghost use Rattle.std.specs.Prelude.{◌≡◌, not, ◌&&◌};
 ghost use Rattle.timer.specs.Timers.{delay, divisor, event_count, pulse_width, runs, timeout, pulsed, clocked, controlled, reload_written, reset_timer, fresh_timer, position_rule};
 
-#[derive(Drop)]
+#[derive(Clone, Copy)]
 pub struct Timer {
     pub mode: u8,
     pub reload: u8,

@@ -1,12 +1,14 @@
 // The four timers together, by value: their registers, their outputs, their part of the image rule. The
 // rules stand in specs/Registers.antt; clocks and count pulses are crate timeouts. Every function is
 // total.
+#![tactic(auto)]
+
 ghost use Rattle.std.specs.Prelude.{◌≡◌};
 ghost use Rattle.timers.specs.Registers.{tcdcr_of, timer_read, timer_written, reset_timers, fresh_timers, outputs_of, timer_rule, timers_rule};
 
 use timer::Timer;
 
-#[derive(Drop)]
+#[derive(Clone, Copy)]
 pub struct Timers {
     pub a: Timer,
     pub b: Timer,
@@ -14,7 +16,7 @@ pub struct Timers {
     pub d: Timer,
 }
 
-#[derive(Drop)]
+#[derive(Clone, Copy)]
 pub enum TimerRegister {
     Tacr,
     Tbcr,

@@ -1,6 +1,8 @@
 // The whole text of the replay program for a tape, at the start of a buffer that the caller lends.
 // The text stands in specs/Transcript.antt. A buffer of ENOUGH bytes holds the text of every tape; a
 // shorter one stays as it was.
+#![tactic(auto)]
+
 ghost use Rattle.std.specs.Prelude.{◌≡◌, true, ◌++◌, ◌+◌, ◌≤◌, ◌<◌, length, take, drop};
 ghost use Rattle.events.specs.Ranges.{in_range};
 ghost use Rattle.device.specs.Whole.{fresh_device, image_rule};

@@ -1,5 +1,7 @@
 // The words of a line of the replay program that take a fixed room: class, value, IRQ and outputs, as
 // bytes. The text stands in specs/Words.antt.
+#![tactic(auto)]
+
 ghost use Rattle.std.specs.Prelude.{◌≡◌, ◌<◌};
 ghost use Rattle.words.specs.Words.{hex_digit, hex_byte, class_letter, value_text, irq_digit, middle_of};
 

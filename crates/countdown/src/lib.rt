@@ -41,8 +41,8 @@ struct Down {
 // set out a period earlier. One that has more than its period left may not have come that far. It divides
 // whatever n is, as `go_along` does: a long span costs what a short one costs.
 fn count(first: u32, period: u32, n: u32) -> Counted
-    requires le_first { 1 ≤ first }
-    requires le_period { 1 ≤ period }
+    requires some_left { 1 ≤ first }
+    requires some_period { 1 ≤ period }
     ensures { (result.times ≡ ran_out period n first) × (result.left ≡ left period n first) }
 {
     let p = period as u64;

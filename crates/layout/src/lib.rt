@@ -57,8 +57,8 @@ pub fn interrupts_from(image: &[u8]) -> Interrupts
 
 // The timer whose data value stands at byte `at`, with this mode and output.
 fn timer_from(image: &[u8], at: usize, mode: u8, output: bool) -> Timer
-    requires image_len { length image.now ≡ image_bytes }
-    requires at_bound { at + 8 < image_bytes }
+    requires whole_image { length image.now ≡ image_bytes }
+    requires within_image { at + 8 < image_bytes }
     ensures { result ≡ timer_from image.now at mode output }
 {
     Timer {

@@ -53,8 +53,8 @@ fn check_image(images: &[u8], at: usize) -> u32
 
 // 0, or the code of the first refused of n images.
 fn check_images(images: &[u8], n: usize) -> u32
-    requires image_bytes_in_bounds { n * image_bytes ≤ length images.now }
-    requires n_le_row_most { n ≤ row_most }
+    requires within { n * image_bytes ≤ length images.now }
+    requires at_most_a_row { n ≤ row_most }
     ensures { result ≡ first_refused 0 n images.now }
 {
     let mut i = 0;
@@ -105,8 +105,8 @@ fn acknowledge_record(iei: bool) -> [u8; RECORD_BYTES]
 
 // The acknowledge of the image that starts at this byte.
 fn acknowledge_image(images: &mut [u8], at: usize, iei: bool) -> Answered
-    requires image_bytes_in_bounds { at + image_bytes ≤ length images.old }
-    requires at_value { load_of (image_at images.old at) ≡ Accepted (device_of (image_at images.old at)) }
+    requires within { at + image_bytes ≤ length images.old }
+    requires accepted { load_of (image_at images.old at) ≡ Accepted (device_of (image_at images.old at)) }
     ensures { (result.class ≡ class_of (step_at images.old at iei).answer) × (result.value ≡ value_of (step_at images.old at iei).answer) × (images.new ≡ put_at images.old at iei) }
 {
     let end = at + IMAGE_BYTES;
@@ -121,9 +121,9 @@ fn acknowledge_image(images: &mut [u8], at: usize, iei: bool) -> Answered
 
 // The acknowledge of n checked images, and what it tells. Each is written, whatever it answers.
 fn acknowledge_images(images: &mut [u8], n: usize) -> u32
-    requires image_bytes_in_bounds { n * image_bytes ≤ length images.old }
-    requires n_le_row_most { n ≤ row_most }
-    requires images_value { first_refused 0 n images.old ≡ 0 }
+    requires within { n * image_bytes ≤ length images.old }
+    requires at_most_a_row { n ≤ row_most }
+    requires all_accepted { first_refused 0 n images.old ≡ 0 }
     ensures { (result ≡ told_of n (given_from 0 (acknowledged_row (row_of n images.old)))) × (images.new ≡ images_of (devices_of (acknowledged_row (row_of n images.old))) ++ drop (n * image_bytes) images.old) }
 {
     let mut told = 256 * (n as u32);

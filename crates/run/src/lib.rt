@@ -16,9 +16,9 @@ use record::RECORD_BYTES;
 
 // Runs the n records of a checked tape from device d, and writes their answers.
 fn run_records(d: Device, tape: &[u8], answers: &mut [u8], n: usize) -> Device
-    requires record_bytes_in_bounds { n * record_bytes ≤ length tape.now }
-    requires answer_bytes_in_bounds { n * answer_bytes ≤ length answers.old }
-    requires n_value { first_bad tape.now 0 n ≡ Fine }
+    requires records_within { n * record_bytes ≤ length tape.now }
+    requires answers_within { n * answer_bytes ≤ length answers.old }
+    requires checked { first_bad tape.now 0 n ≡ Fine }
     ensures { (result ≡ run_of d (events tape.now 0 n)) × (answers.new ≡ answers_of d (events tape.now 0 n) ++ drop (n * answer_bytes) answers.old) }
 {
     let mut current = d;

@@ -32,8 +32,8 @@ pub const ENOUGH: usize = RECORDS_MOST * LINE_MOST;
 // One event through the record lent. It is never refused, since the record keeps the image rule and
 // the operands are in range.
 fn lent_step(d: Device, e: Event) -> Stepped
-    requires d_value { image_rule d ≡ true }
-    requires e_value { in_range e ≡ true }
+    requires ruled { image_rule d ≡ true }
+    requires operands_in_range { in_range e ≡ true }
     ensures { result ≡ step_of d e }
 {
     let h = lent::event_by_value(d, e);
@@ -55,8 +55,8 @@ fn lent_step(d: Device, e: Event) -> Stepped
 
 // One event, of a record lent or by value.
 fn step(d: Device, e: Event, lending: bool) -> Stepped
-    requires d_value { image_rule d ≡ true }
-    requires e_value { in_range e ≡ true }
+    requires ruled { image_rule d ≡ true }
+    requires operands_in_range { in_range e ≡ true }
     ensures { result ≡ step_of d e }
 {
     if lending {
@@ -67,8 +67,8 @@ fn step(d: Device, e: Event, lending: bool) -> Stepped
 
 // Puts the line of record i at index `at`, and returns the index after it.
 fn put_line(out: &mut [u8], at: usize, i: usize, s: Stepped) -> usize
-    requires line_most_in_bounds { at + line_most ≤ length out.old }
-    requires i_lt_records_most { i < records_most }
+    requires line_within { at + line_most ≤ length out.old }
+    requires index_within { i < records_most }
     ensures value { result ≡ at + length (step_line i s) }
     ensures upper_bound { result ≤ at + line_most }
     ensures out_after { out.new ≡ (take at out.old ++ step_line i s) ++ drop result out.old }
@@ -84,10 +84,10 @@ fn put_line(out: &mut [u8], at: usize, i: usize, s: Stepped) -> usize
 
 // Puts the lines of a checked tape that starts from this device, and returns the index after them.
 fn put_lines(start: Device, tape: &[u8], out: &mut [u8], lending: bool) -> usize
-    requires start_value { image_rule start ≡ true }
-    requires tape_value { fitting tape.now ≡ true }
-    requires tape_value_2 { first_bad tape.now 0 (records tape.now) ≡ Fine }
-    requires enough_in_bounds { enough ≤ length out.old }
+    requires ruled { image_rule start ≡ true }
+    requires fits { fitting tape.now ≡ true }
+    requires checked { first_bad tape.now 0 (records tape.now) ≡ Fine }
+    requires enough_room { enough ≤ length out.old }
     ensures value { result ≡ length (lines_of 0 start (events_of tape.now)) }
     ensures upper_bound { result ≤ length out.new }
     ensures out_after { out.new ≡ lines_of 0 start (events_of tape.now) ++ drop result out.old }

@@ -59,7 +59,7 @@ pub fn event(d: &mut Device, e: Event) -> Outcome
 
 // The same by value, over a local that it lends: its callers lend nothing.
 pub fn event_by_value(d: Device, e: Event) -> Handled
-    ensures { result ≡ handled_of d e }
+    ensures as_handled { result ≡ handled_of d e }
 {
     let mut n = d;
     let o = event(&mut n, e);

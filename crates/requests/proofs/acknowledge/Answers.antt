@@ -1,0 +1,33 @@
+-- `acknowledge` meets its contract: held, passed on, or the highest requesting channel's vector. Assumes nothing.
+use Prim.Native.Nat.{ℕ}
+use Rattle.interrupts.specs.declared.Interrupts.{Interrupts}
+use Rattle.requests.proofs.Requests.{requesting_below, held, nobody_passes_on, vectored}
+use Rattle.requests.specs.Requests.{vector_of}
+use Rattle.requests.specs.declared.Acknowledged.{Acknowledged}
+use Rattle.requests.specs.declared.Reply.TheVariants.{Vector}
+use borrow.Author.Tests.{not-true, not-false}
+use mathlib.Core.Path.{sym, ap, ◌∙◌}
+use native.Mathlib.Omega.{arith}
+use Rattle.requests.proofs.acknowledge.Goals as goal
+
+gave : ℕ → Interrupts → Acknowledged
+gave v i = record { interrupts = i; reply = Vector v }
+
+pub returns-in_default : goal.returns-in_default
+returns-in_default c =
+    let a = c.args in
+    sym (nobody_passes_on a.iei a.i (not-false _ c.if-not-iei.false-raw) (sym c.highest.ensures ∙ c.in_default.is))
+
+pub overflow_add-v : goal.overflow_add-v
+overflow_add-v c =
+    let s = c.args.i in
+    let k = c.c-1.given in
+    omega (arith, requesting_below s k.0.0 (sym c.highest.ensures ∙ k.1))
+
+pub returns : goal.returns
+unfolding gave vector_of
+returns c =
+    let a = c.args in
+    let k = c.c-1.given in
+    ap (gave (vector_of k.0.0 a.i)) c.give.ensures
+    ∙ sym (vectored a.iei a.i k.0.0 (not-false _ c.if-not-iei.false-raw) (sym c.highest.ensures ∙ k.1))

@@ -15,16 +15,16 @@ returns-then-n-eq0 c = rw c.if-n-eq0.true (refl, refl)
 pub returns-then-not-goes : goal.returns-then-not-goes
 returns-then-not-goes c =
     let a = c.args in
-    let g = sym c.goes.ensures ∙ not-true _ c.if-not-goes.true-raw in
+    let g = sym c.goes.ensures ∙ c.if-not-goes.true in
     (sym (idle_clocks a.active a.n a.t g), sym (idle_timeouts a.active a.n a.t g))
 
 pub go_along-a-requires : goal.go_along-a-requires
-go_along-a-requires c = let a = c.args in omega (arith, running_divisor a.active a.t (sym c.goes.ensures ∙ not-false _ c.if-not-goes.false-raw))
+go_along-a-requires c = let a = c.args in omega (arith, running_divisor a.active a.t (sym c.goes.ensures ∙ c.if-not-goes.false))
 
 pub returns : goal.returns
 returns c =
     let a = c.args in
-    let g = sym c.goes.ensures ∙ not-false _ c.if-not-goes.false-raw in
+    let g = sym c.goes.ensures ∙ c.if-not-goes.false in
     let e = clocks_at_once a.active a.n a.t g (omega arith) (omega arith) c.if-n-eq0.false in
     let f = timeouts_at_once a.active a.n a.t g in
     let l = c.go_along-a.ensures in

@@ -13,21 +13,23 @@ use Rattle.requests.proofs.acknowledge.Goals as goal
 gave : ℕ → Interrupts → Acknowledged
 gave v i = record { interrupts = i; reply = Vector v }
 
+pub returns-then-not-iei : goal.returns-then-not-iei
+returns-then-not-iei c = let a = c.args in sym (held a.iei a.i c.if-not-iei.true)
+
 pub returns-in_default : goal.returns-in_default
 returns-in_default c =
     let a = c.args in
-    sym (nobody_passes_on a.iei a.i (not-false _ c.if-not-iei.false-raw) (sym c.highest.ensures ∙ c.in_default.is))
+    sym (nobody_passes_on a.iei a.i c.if-not-iei.false (sym c.highest.ensures ∙ c.in_default.is))
 
 pub overflow_add-v : goal.overflow_add-v
 overflow_add-v c =
     let s = c.args.i in
-    let k = c.c-1.given in
-    omega (arith, requesting_below s k.0.0 (sym c.highest.ensures ∙ k.1))
+    omega (arith, requesting_below s c.in-By.c (sym c.highest.ensures ∙ c.in-By.is))
 
 pub returns : goal.returns
 unfolding gave vector_of
 returns c =
     let a = c.args in
-    let k = c.c-1.given in
-    ap (gave (vector_of k.0.0 a.i)) c.give.ensures
-    ∙ sym (vectored a.iei a.i k.0.0 (not-false _ c.if-not-iei.false-raw) (sym c.highest.ensures ∙ k.1))
+    let k = c.in-By.c in
+    ap (gave (vector_of k a.i)) c.give.ensures
+    ∙ sym (vectored a.iei a.i k c.if-not-iei.false (sym c.highest.ensures ∙ c.in-By.is))

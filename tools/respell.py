@@ -57,7 +57,7 @@ def lines_of(path):
 
 def declared():
     """Each own name with its new spelling, and where it is declared; and the names that are Rattle's."""
-    own, made = collections.defaultdict(set), set()
+    own, made, made_elsewhere = collections.defaultdict(set), set(), set()
     for path in files("crates/*/specs/**/*.antt", "crates/*/proofs/**/*.antt"):
         for line in lines_of(path):
             m = DECLARED.match(line)
@@ -68,7 +68,11 @@ def declared():
                 made.add(name)
                 continue
             own[name].add(path)
-    return own, made
+        # what a library gives keeps its name
+        with open(path, encoding="utf-8") as f:
+            for names in re.findall(r"^use (?!Rattle\.(?!std\.))\S+?\.\{([^}]*)\}", f.read(), re.M):
+                made_elsewhere.update(n.strip() for n in names.split(","))
+    return {n: p for n, p in own.items() if n not in made_elsewhere}, made
 
 
 def main():

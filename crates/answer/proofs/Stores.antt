@@ -3,7 +3,7 @@ use Prim.Native.Nat.{ℕ, ◌+◌, ◌-◌, ◌≤◌}
 use mathlib.Core.List.{List, ◌++◌, append_assoc}
 use mathlib.Core.Path.{◌≡◌, sym, ap, ap₂, ◌∙◌}
 use native.Mathlib.Omega.{arith}
-use lib.ListN.{length, take, drop, length_append}
+use lib.ListN.{length, take, drop, length-append}
 use lib.Seq.{length-take-le, take_at, drop_at, drop-drop}
 
 -- the buffer with these bytes from byte `at` on
@@ -12,7 +12,7 @@ placed at b l = take at l ++ b ++ drop (at + length b) l
 
 module _ (at : ℕ) (b c l : List ℕ) (h : at + length b ≤ length l) where
   before_long : length (take at l ++ b) ≡ at + length b
-  before_long = length_append (take at l) b ∙ ap (λ (k : ℕ). k + length b) (length-take-le at l (omega arith))
+  before_long = length-append (take at l) b ∙ ap (λ (k : ℕ). k + length b) (length-take-le at l (omega arith))
 
   pub placed_twice : placed (at + length b) c (placed at b l) ≡ placed at (b ++ c) l
   placed_twice =
@@ -20,7 +20,7 @@ module _ (at : ℕ) (b c l : List ℕ) (h : at + length b ≤ length l) where
       ∙ ap₂ (λ (x y : List ℕ). x ++ y) (append_assoc (take at l) b c) (ap (λ (k : ℕ). drop k l) (sym far))
     where
       far : at + length (b ++ c) ≡ at + length b + length c
-      far = omega (arith, length_append b c)
+      far = omega (arith, length-append b c)
 
       after : drop (at + length b + length c) (placed at b l) ≡ drop (at + length b + length c) l
       after =

@@ -4,7 +4,7 @@ use mathlib.Core.Path.{◌≡◌, refl, sym, ap, ◌∙◌}
 use mathlib.Core.List.{List, [], ◌∷◌, ◌++◌, append_assoc}
 use native.Mathlib.Nat.{zero-add}
 use native.Mathlib.Omega.{arith}
-use lib.ListN.{length, take, drop, length_append}
+use lib.ListN.{length, take, drop, length-append}
 use lib.Seq.{take_at, drop_at}
 use borrow.Author.Tests.{eq-eqb}
 use Rattle.device.specs.declared.Device.{Device}
@@ -46,7 +46,7 @@ events_long tape (suc k) i g = rw ((good_record_has_event tape i).0 (g i (omega 
 answers_long : (d : Device) (es : List Event) → length (answers_of d es) ≡ answer_bytes * length es
 unfolding answers_of answer_of
 answers_long d [] = refl
-answers_long d (e ∷ es) = omega (arith, length_append (answer_of (step_of d e)) (answers_of (step_of d e).device es), answers_long (step_of d e).device es)
+answers_long d (e ∷ es) = omega (arith, length-append (answer_of (step_of d e)) (answers_of (step_of d e).device es), answers_long (step_of d e).device es)
 
 -- ---- what an answered call leaves
 module _ (image tape answers : List ℕ) (ok : result_of image tape answers ≡ 0) where

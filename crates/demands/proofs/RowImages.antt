@@ -5,7 +5,7 @@ use mathlib.Core.Bool.{Bool, true, false, cond, ◌&&◌}
 use mathlib.Core.List.{List, [], ◌∷◌, ◌++◌, append_assoc}
 use native.Mathlib.Omega.{arith}
 use lib.Dec.{eqb, ltb, leb, lit<}
-use lib.ListN.{length, take, drop, length_append}
+use lib.ListN.{length, take, drop, length-append}
 use lib.Seq.{take_all, take-add, take_at, drop_at}
 use borrow.Author.Tests.{eq-eqb, ne_eqb, eqb-true, eqb-false, leb-true}
 use Rattle.events.specs.declared.Event.TheVariants.{Acknowledge}
@@ -39,7 +39,7 @@ image_long d = refl
 images_long : (ds : List Device) → length (images_of ds) ≡ length ds * image_bytes
 unfolding images_of
 images_long [] = refl
-images_long (d ∷ ds) = length_append (image_of d) (images_of ds) ∙ ap₂ (λ (m n : ℕ). m + n) (image_long d) (images_long ds) ∙ omega arith
+images_long (d ∷ ds) = length-append (image_of d) (images_of ds) ∙ ap₂ (λ (m n : ℕ). m + n) (image_long d) (images_long ds) ∙ omega arith
 
 -- the first of them, and those after it
 first_image : (d : Device) (ds : List Device) → take image_bytes (image_of d ++ images_of ds) ≡ image_of d

@@ -6,7 +6,7 @@ use mathlib.Core.List.{List, ◌∷◌, ◌++◌}
 use native.Mathlib.Nat.{add_assoc, add-zero, zero-add, suc-add}
 use native.Mathlib.Omega.{arith}
 use lib.Dec.{eqb, ltb, lit<}
-use lib.ListN.{length, take, drop, length_append, length-drop, get_or-append}
+use lib.ListN.{length, take, drop, length-append, length-drop, get_or-append}
 use lib.Seq.{length-take-le, get_or-append-add, get_or-take, get_or-drop}
 use borrow.Author.Tests.{eqb-true, eqb-false, ltb-true, ltb-false}
 use Rattle.events.specs.declared.Event.{Event}
@@ -76,10 +76,10 @@ events_join t (suc k) m i = ap (events t i) (suc-add k m) ∙ go (decoded t (i *
 -- ---- c records in place of those from the i-th on and below the k-th
 module _ (i k c : ℕ) (new tape : List ℕ) (h : i ≤ k) (l : k * record_bytes ≤ length tape) (e : length new ≡ c * record_bytes) where
   front_long : length (take (i * record_bytes) tape ++ new) ≡ (i + c) * record_bytes
-  front_long = omega (arith, length_append (take (i * record_bytes) tape) new, length-take-le (i * record_bytes) tape (omega arith))
+  front_long = omega (arith, length-append (take (i * record_bytes) tape) new, length-take-le (i * record_bytes) tape (omega arith))
 
   pub replaced_long : length (replaced i k new tape) + k * record_bytes ≡ length tape + (i + c) * record_bytes
-  replaced_long = omega (arith, length_append (take (i * record_bytes) tape ++ new) (drop (k * record_bytes) tape), front_long, length-drop (k * record_bytes) tape)
+  replaced_long = omega (arith, length-append (take (i * record_bytes) tape ++ new) (drop (k * record_bytes) tape), front_long, length-drop (k * record_bytes) tape)
 
   pub replaced_before : (j : ℕ) → j < i → decoded (replaced i k new tape) (j * record_bytes) ≡ decoded tape (j * record_bytes)
   replaced_before j b =

@@ -5,7 +5,7 @@ use mathlib.Core.List.{List, [], ◌++◌}
 use native.Mathlib.Nat.{mod-lt}
 use native.Mathlib.Omega.{arith}
 use lib.Dec.{lit<}
-use lib.ListN.{length, length_append}
+use lib.ListN.{length, length-append}
 use Rattle.events.specs.declared.Event.TheVariants.{Clocks}
 use Rattle.bits.specs.Bytes.{byte}
 use Rattle.record.specs.declared.Decoded.TheVariants.{Valid}
@@ -46,7 +46,7 @@ joins image cut answers i m n r ok h p q short w =
 cut_spans : (joined : List ℕ) (i m n : ℕ) (p q : List ℕ) → i < records joined → RecordMeans joined i (Clocks (m + n)) → RecordOf (Clocks m) p → RecordOf (Clocks n) q → Spanned (replaced i (i + 1) (p ++ q) joined) joined i m n
 cut_spans joined i m n p q h w v u =
     let l : (i + 1) * record_bytes ≤ length joined = omega arith in
-    let o : length (p ++ q) ≡ 2 * record_bytes = omega (arith, length_append p q, v.long, u.long) in
+    let o : length (p ++ q) ≡ 2 * record_bytes = omega (arith, length-append p q, v.long, u.long) in
     record {
       longer = omega (arith, replaced_long i (i + 1) 2 (p ++ q) joined (omega arith) l o);
       within = h;

@@ -6,7 +6,7 @@ use mathlib.Core.Bool.{Bool, true, false}
 use mathlib.Core.List.{List, [], ◌∷◌, ◌++◌, append_assoc, append-nil}
 use native.Mathlib.Omega.{arith}
 use lib.Dec.{eqb}
-use lib.ListN.{length, take, drop, length_append, length-drop, take-append-drop}
+use lib.ListN.{length, take, drop, length-append, length-drop, take-append-drop}
 use lib.Seq.{length-take-le, take_at, drop_at, drop-drop}
 use Rattle.events.specs.declared.Event.TheVariants.{Acknowledge}
 use Rattle.events.specs.declared.Answer.{Answer}
@@ -148,7 +148,7 @@ module _ (b₀ : List ℕ) (n : ℕ) where
       unfolding image_of
       before_long =
           let f = fits in
-          length_append (take (i * image_bytes) b) (image_of s.device) ∙ ap (λ (k : ℕ). k + image_bytes) (length-take-le (i * image_bytes) b (omega arith)) ∙ omega arith
+          length-append (take (i * image_bytes) b) (image_of s.device) ∙ ap (λ (k : ℕ). k + image_bytes) (length-take-le (i * image_bytes) b (omega arith)) ∙ omega arith
 
       -- the step written in its place
       after : (told' : ℕ) → told_or told' (given_from (i + 1) rest') ≡ told_or told (given_or s.answer i (given_from (i + 1) rest')) → Going (before ++ drop (i * image_bytes + image_bytes) b) told' (ieo s.answer) (i + 1)
@@ -156,7 +156,7 @@ module _ (b₀ : List ℕ) (n : ℕ) where
       after told' w = record {
         within = omega arith;
         long =
-            length_append before (drop (i * image_bytes + image_bytes) b)
+            length-append before (drop (i * image_bytes + image_bytes) b)
             ∙ ap₂ (λ (x y : ℕ). x + y) before_long (length-drop (i * image_bytes + image_bytes) b)
             ∙ (let l = g.long in omega arith);
         clear = passes.clear;

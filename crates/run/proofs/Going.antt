@@ -3,7 +3,7 @@ use Prim.Native.Nat.{ℕ, ◌+◌, ◌-◌, ◌*◌, ◌≤◌, ◌<◌}
 use mathlib.Core.Path.{◌≡◌, refl, sym, ap, ap₂, ◌∙◌}
 use mathlib.Core.List.{List, [], ◌∷◌, ◌++◌, append_assoc, append-nil}
 use native.Mathlib.Omega.{arith}
-use lib.ListN.{length, take, drop, length_append, length-drop, take-append-drop}
+use lib.ListN.{length, take, drop, length-append, length-drop, take-append-drop}
 use lib.Seq.{length-take-le, take_at, drop_at, drop-drop}
 use Rattle.device.specs.declared.Device.{Device}
 use Rattle.events.specs.declared.Event.{Event}
@@ -69,7 +69,7 @@ module _ (d : Device) (tape ans₀ : List ℕ) (n : ℕ) where
 
     head_long : length (take (i * answer_bytes) ans ++ answer_of (step_of at e)) ≡ (i + 1) * answer_bytes
     unfolding answer_of
-    head_long = length_append (take (i * answer_bytes) ans) (answer_of (step_of at e)) ∙ ap (λ (k : ℕ). k + answer_bytes) (length-take-le (i * answer_bytes) ans (omega arith)) ∙ omega arith
+    head_long = length-append (take (i * answer_bytes) ans) (answer_of (step_of at e)) ∙ ap (λ (k : ℕ). k + answer_bytes) (length-take-le (i * answer_bytes) ans (omega arith)) ∙ omega arith
 
     events_here : events tape i (n - i) ≡ e ∷ events tape (i + 1) (n - (i + 1))
     events_here = event_valid tape i n h e p
@@ -79,7 +79,7 @@ module _ (d : Device) (tape ans₀ : List ℕ) (n : ℕ) where
     going_on = record {
       within = omega arith;
       long =
-          length_append (take (i * answer_bytes) ans ++ answer_of (step_of at e)) (drop (i * answer_bytes + answer_bytes) ans)
+          length-append (take (i * answer_bytes) ans ++ answer_of (step_of at e)) (drop (i * answer_bytes + answer_bytes) ans)
           ∙ ap₂ (λ (x y : ℕ). x + y) head_long (length-drop (i * answer_bytes + answer_bytes) ans)
           ∙ (let l = g.long in omega arith);
       clear = sym (check_valid tape i n h e p) ∙ g.clear;

@@ -8,7 +8,7 @@ use native.Mathlib.Nat.{pow-suc}
 use native.Mathlib.Omega.{arith}
 use borrow.Author.Tests.{ltb-true, ltb-false, lt-ltb, le-ltb}
 use lib.Dec.{ltb}
-use lib.ListN.{length, length_append}
+use lib.ListN.{length, length-append}
 use Rattle.text.specs.Lines.{decimal_in, decimal}
 use Rattle.words.specs.Words.{digit}
 
@@ -49,7 +49,7 @@ from_ten n h =
     ∙ ap (λ (l : List ℕ). l ++ (digit (n % 10) ∷ [])) (enough n (n / 10) (n / 10) (omega arith) (omega arith))
 
 pub one_more : (n : ℕ) → 10 ≤ n → length (decimal n) ≡ length (decimal (n / 10)) + 1
-one_more n h = rw (from_ten n h, length_append)
+one_more n h = rw (from_ten n h, length-append)
 
 -- a number below a power of ten has as many digits as the power at most
 pub at_most : (k n : ℕ) → n < 10 ^ suc k → length (decimal n) ≤ suc k

@@ -3,7 +3,7 @@ use Prim.Native.Nat.{ℕ, suc, ◌+◌, ◌^◌, ◌≤◌, ◌<◌}
 use mathlib.Core.Path.{◌≡◌, refl}
 use mathlib.Core.Bool.{Bool}
 use native.Mathlib.Omega.{arith}
-use lib.ListN.{length, length_append}
+use lib.ListN.{length, length-append}
 use Rattle.events.specs.declared.Answer.{Answer}
 use Rattle.events.specs.declared.Answer.TheVariants.{Done, Data, Vector, PassedOn, Held}
 use Rattle.timeouts.specs.declared.Timeouts.{Timeouts}
@@ -18,7 +18,7 @@ abbrev pub Takes : ℕ → ℕ → Type 0
 Takes n most = (length (decimal n) < most) × (length (spaced (decimal n)) ≤ most) × (length (ended (decimal n)) ≤ most)
 
 takes : (k n : ℕ) → n < 10 ^ suc k → Takes n (suc k + 1)
-takes k n h = let d = at_most k n h in (omega arith, rw length_append (omega arith), rw length_append (omega arith))
+takes k n h = let d = at_most k n h in (omega arith, rw length-append (omega arith), rw length-append (omega arith))
 
 pub index_takes : (n : ℕ) → n < 2 ^ 16 → Takes n index_most
 index_takes n h = takes 4 n (omega arith)
@@ -42,19 +42,19 @@ module _ (n : Timeouts) (a : n.a < 2 ^ 32) (b : n.b < 2 ^ 32) (c : n.c < 2 ^ 32)
   counts_fit : length (counts_of n) ≤ counts_most
   unfolding counts_of
   counts_fit =
-      rw (length_append (spaced (decimal n.a)), length_append (spaced (decimal n.b)), length_append (spaced (decimal n.c)))
+      rw (length-append (spaced (decimal n.a)), length-append (spaced (decimal n.b)), length-append (spaced (decimal n.c)))
       (omega (arith, count_takes n.a a, count_takes n.b b, count_takes n.c c, count_takes n.d d))
 
   -- ---- lines
   pub line_fits : (i : ℕ) (o : Answer) (irq : Bool) (outputs : ℕ) → i < 2 ^ 16 → length (line_of i o irq outputs n) ≤ line_most
   unfolding line_of
   line_fits i o irq outputs h =
-      rw (length_append (spaced (decimal i)), length_append (middle_of o irq outputs), middle_length)
+      rw (length-append (spaced (decimal i)), length-append (middle_of o irq outputs), middle_length)
       (omega (arith, index_takes i h, counts_fit, parts_fit))
 
 -- a refusal's number is below 256, and takes no more than an index
 pub refused_fits : (k i : ℕ) → k < 2 ^ 16 → i < 2 ^ 16 → length (refused_line k i) ≤ line_most
 unfolding refused_line
 refused_fits k i h g =
-    rw (length_append (spaced (bytes "refused")), length_append (spaced (decimal k)))
+    rw (length-append (spaced (bytes "refused")), length-append (spaced (decimal k)))
     (omega (arith, index_takes k h, index_takes i g))

@@ -5,7 +5,7 @@ use mathlib.Core.List.{List, [], ◌∷◌, ◌++◌}
 use native.Mathlib.Nat.{le_of_lt}
 use native.Mathlib.Numerals.{add-one}
 use native.Mathlib.Omega.{arith}
-use lib.ListN.{length, take, get_or, set, length_append}
+use lib.ListN.{length, take, get_or, set, length-append}
 use lib.Seq.{sets, take-suc, length-take-le}
 use Rattle.text.specs.Private.{Puts}
 
@@ -19,7 +19,7 @@ sets_append (b ∷ s) t l at =
 pub puts_append : {s t before mid after : List ℕ} {at end last : ℕ} → Puts s before at mid end → Puts t mid end after last → Puts (s ++ t) before at after last
 puts_append {s} {t} {before} {mid} {after} {at} {end} {last} p q = record {
   stored = rw (sets_append, ← p.stored, ← p.ends) q.stored;
-  ends = rw length_append (omega arith);
+  ends = rw length-append (omega arith);
 }
 
 -- a text up to its byte i, and that byte

@@ -5,7 +5,7 @@ use mathlib.Core.List.{List, ◌++◌, append_assoc}
 use native.Mathlib.Omega.{arith}
 use borrow.Author.Tests.{le-ltb}
 use borrow.Rule.Slice.PartMut.{mid_of, put_mid, mid_len, Post-is}
-use lib.ListN.{length, take, drop, take-append-drop, length_append, length-drop}
+use lib.ListN.{length, take, drop, take-append-drop, length-append, length-drop}
 use lib.Seq.{length-take-le, drop-append-le, drop-drop}
 use Rattle.text.specs.Lines.{line_most, written, written_length}
 use Rattle.text.proofs.Whole.{length_long}
@@ -25,7 +25,7 @@ module _ (at : ℕ) (line out : List ℕ) (h : at + line_most ≤ length out) wh
     after_long : length after ≡ line_most
     after_long =
         let p = ap length (Post-is at (at + line_most) out (omega arith)) in
-        omega (arith, l, length_append (take at out) (after ++ drop (at + line_most - at) (drop at out)), length_append after (drop (at + line_most - at) (drop at out)), length-take-le at out (omega arith), p, length-drop (at + line_most) out)
+        omega (arith, l, length-append (take at out) (after ++ drop (at + line_most - at) (drop at out)), length-append after (drop (at + line_most - at) (drop at out)), length-take-le at out (omega arith), p, length-drop (at + line_most) out)
 
     written_is : after ≡ line ++ drop (length line) part
     unfolding written
@@ -33,7 +33,7 @@ module _ (at : ℕ) (line out : List ℕ) (h : at + line_most ≤ length out) wh
 
     pub line_fits : length line ≤ line_most
     line_fits =
-        omega (arith, after_long, ap length written_is, length_append line (drop (length line) part))
+        omega (arith, after_long, ap length written_is, length-append line (drop (length line) part))
 
     -- what lies after the line is as it was
     rest : drop (length line) part ++ drop (at + line_most) out ≡ drop (at + length line) out

@@ -4,7 +4,7 @@ use mathlib.Core.Path.{◌≡◌, refl, sym, ap, ap₂, ◌∙◌}
 use mathlib.Core.Bool.{true}
 use mathlib.Core.List.{List, [], ◌++◌, append_assoc, append-nil}
 use native.Mathlib.Omega.{arith}
-use lib.ListN.{length, take, drop, length_append, length-drop, take-append-drop}
+use lib.ListN.{length, take, drop, length-append, length-drop, take-append-drop}
 use lib.Seq.{length-take-le, take_at, drop_at, drop-drop}
 use Rattle.events.specs.declared.Event.{Event}
 use Rattle.device.specs.declared.Device.{Device}
@@ -90,7 +90,7 @@ module _ (start : Device) (tape out₀ : List ℕ) (n : ℕ) where
       short = omega (arith, going_fits out d at i g h few fits)
 
       head_long : length (take at out ++ line) ≡ r
-      head_long = length_append (take at out) line ∙ ap (λ (k : ℕ). k + length line) (length-take-le at out short) ∙ sym to
+      head_long = length-append (take at out) line ∙ ap (λ (k : ℕ). k + length line) (length-take-le at out short) ∙ sym to
 
       pub going_on : Going after (step_of d e).device r (i + 1)
       going_on = record {
@@ -98,7 +98,7 @@ module _ (start : Device) (tape out₀ : List ℕ) (n : ℕ) where
         rule = every_event_keeps_the_rule d e (bytes_of (rw p at (record_row tape i))) g.rule;
         long =
             ap length put
-            ∙ length_append (take at out ++ line) (drop r out)
+            ∙ length-append (take at out ++ line) (drop r out)
             ∙ ap₂ (λ (x y : ℕ). x + y) head_long (length-drop r out)
             ∙ (let l = g.long in omega (arith, going_fits out d at i g h few fits));
         room = let q = g.room in omega arith;

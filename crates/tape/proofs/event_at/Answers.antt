@@ -1,4 +1,5 @@
 -- `tape::event_at` meets its contract: what is taken of a record, kind by kind. Assumes nothing.
+use Rattle.std.proofs.Common.{◌≤◌, arith}
 use Prim.Native.Nat.{ℕ, ◌+◌, zero-le}
 use Rattle.bits.specs.Bytes.{byte}
 use Rattle.channels.specs.Channels.{channel}

@@ -7,25 +7,19 @@ use Rattle.text.specs.Lines.{refused_line}
 use native.Mathlib.Omega.{arith}
 use Rattle.text.proofs.refused.Goals as goal
 
-numbers : (c : tie.Start) → Takes c.args.number index_most × Takes c.args.index index_most
-numbers c = (index_takes c.args.number (omega arith), index_takes c.args.index (omega arith))
-
 pub returns-then-out-lt-LINE_MOST : goal.returns-then-out-lt-LINE_MOST
-returns-then-out-lt-LINE_MOST c = short _ _ c.if-out-lt-LINE_MOST.true
+returns-then-out-lt-LINE_MOST c = let w = short _ _ c.if-out-lt-LINE_MOST.true in record { value = w.0; out_after = w.1.0; counts = w.1.1 }
 
 pub put_number-to_index-requires : goal.put_number-to_index-requires
-put_number-to_index-requires c = omega (arith, numbers c)
+put_number-to_index-requires c = omega (arith, index_takes c.args.number (omega arith), index_takes c.args.index (omega arith))
 
 pub put_number-requires : goal.put_number-requires
-put_number-requires c = omega (arith, numbers c)
+put_number-requires c = omega (arith, index_takes c.args.number (omega arith), index_takes c.args.index (omega arith))
 
 pub returns : goal.returns
 unfolding refused_line
 returns c =
-    let at-index = c in
-    let at-number = at-index.before.before.before.before in
-    let at-word = at-number.before.before.before.before in
-    let before = at-word.before.before.before in
-    let a = before.before.before.args in
+    let a = c.args in
     let fits = refused_fits a.number a.index (omega arith) (omega arith) in
-    long _ _ before.if1.false fits (puts_append at-word.put.ensures (puts_append at-number.put-number.ensures at-index.put-number2.ensures))
+    let w = long _ _ c.if-out-lt-LINE_MOST.false fits (puts_append c.put-to_number.ensures (puts_append c.put_number-to_index.ensures c.put_number.ensures)) in
+    record { value = w.0; out_after = w.1.0; counts = w.1.1 }

@@ -9,8 +9,7 @@ ghost use Rattle.mfp.specs.Calls.{fresh_result, fresh_over};
 use device::Device;
 
 // Runs a tape on the device of an image: 0, or 256 × index of the bad record + the refusal's number.
-#[unsafe(no_mangle)]
-pub extern "C" fn mfp_run(image: &mut [u8], tape: &[u8], answers: &mut [u8]) -> u32
+pub fn mfp_run(image: &mut [u8], tape: &[u8], answers: &mut [u8]) -> u32
     ensures { (result ≡ result_of image.old tape.now answers.old)
         × (image.new ≡ image_after image.old tape.now answers.old)
         × (answers.new ≡ answers_after image.old tape.now answers.old) }
@@ -19,8 +18,7 @@ pub extern "C" fn mfp_run(image: &mut [u8], tape: &[u8], answers: &mut [u8]) -> 
 }
 
 // Writes the image of a fresh device: 0, or 1 where the buffer is not of an image's length.
-#[unsafe(no_mangle)]
-pub extern "C" fn mfp_fresh(image: &mut [u8]) -> u32
+pub fn mfp_fresh(image: &mut [u8]) -> u32
     ensures { (result ≡ fresh_result image.old) × (image.new ≡ fresh_over image.old) }
 {
     if image.len() != layout::IMAGE_BYTES {
@@ -33,8 +31,7 @@ pub extern "C" fn mfp_fresh(image: &mut [u8]) -> u32
 // Acknowledges the row of one to eight images, one after another, the first with IEI asserted: the code,
 // 0 or 256 × index of the bad image + the refusal's number, and above its 32 bits 256 × how many passed on
 // + the vector.
-#[unsafe(no_mangle)]
-pub extern "C" fn mfp_row_acknowledge(images: &mut [u8]) -> u64
+pub fn mfp_row_acknowledge(images: &mut [u8]) -> u64
     ensures { (result ≡ row_result images.old) × (images.new ≡ row_images images.old) }
 {
     row_images::acknowledge(images)

@@ -89,11 +89,11 @@ module _ (tape : List ℕ) where
 module _ (image tape answers : List ℕ) where
   record_refused : (r : Refusal) (i : ℕ) → i < records tape → ChecksReach image tape i → decoded tape (i * record_bytes) ≡ Invalid r → returned r i ≡ result_of image tape answers
   record_refused r i h c p =
-      sym (by_tape image tape answers (device_of image) (loads image c.good-image)
-      ∙ bad tape (length answers) c.whole-records c.not-above r i (finds tape (records tape) 0 i r (omega arith) (omega arith) c.good-before p))
+      sym (by_tape image tape answers (device_of image) (loads image c.good_image)
+      ∙ bad tape (length answers) c.whole_records c.not_above r i (finds tape (records tape) 0 i r (omega arith) (omega arith) c.good_before p))
 
   all_pass : ChecksReach image tape (records tape) → first_bad tape 0 (records tape) ≡ Fine
-  all_pass c = passes tape (records tape) 0 (λ j h. c.good-before j (omega arith))
+  all_pass c = passes tape (records tape) 0 (λ j h. c.good_before j (omega arith))
 
 pub no_other_row : NoOtherRow
 no_other_row image tape answers _ (image_length_wrong h) = sym (by_image image tape answers ImageLength (image_length_refused image h))
@@ -106,9 +106,9 @@ no_other_row image tape answers _ (kind_above_7 i h c m k) = record_refused imag
 no_other_row image tape answers _ (operand_out_of_range i h c m k f) = record_refused image tape answers Operand i h c (operand_refused tape i m k f)
 no_other_row image tape answers _ (serial_register i h c m r s) = record_refused image tape answers Serial i h c (serial_refused tape i m r s)
 no_other_row image tape answers _ (answers_too_short c h) =
-    sym (by_tape image tape answers (device_of image) (loads image c.good-image) ∙ cramped tape (length answers) c.whole-records c.not-above (all_pass image tape answers c) h)
+    sym (by_tape image tape answers (device_of image) (loads image c.good_image) ∙ cramped tape (length answers) c.whole_records c.not_above (all_pass image tape answers c) h)
 no_other_row image tape answers _ (not_refused c h) =
-    sym (by_tape image tape answers (device_of image) (loads image c.good-image) ∙ roomy tape (length answers) c.whole-records c.not-above (all_pass image tape answers c) h)
+    sym (by_tape image tape answers (device_of image) (loads image c.good_image) ∙ roomy tape (length answers) c.whole_records c.not_above (all_pass image tape answers c) h)
 
 -- ---- every call has its row
 -- of a tape's first n records, the first that is refused

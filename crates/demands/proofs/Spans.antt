@@ -110,8 +110,8 @@ module _ (image cut joined : List ℕ) (i m n : ℕ) (s : Spanned cut joined i m
   joined_answered_in answers answers' ok roomy =
       let c = (an_answered_call_passed_all image cut answers ok).checks in
       let l = s.longer in
-      let n = c.not-above in
-      passed_all_is_answered image joined answers' (record { checks = record { good_image = c.good-image; whole_records = omega arith; not_above = omega arith; good_before = joined_good c.good-before }; roomy = roomy })
+      let n = c.not_above in
+      passed_all_is_answered image joined answers' (record { checks = record { good_image = c.good_image; whole_records = omega arith; not_above = omega arith; good_before = joined_good c.good_before }; roomy = roomy })
 
   -- the joined tape has room where the cut one had
   pub joined_answered : (answers : List ℕ) → result_of image cut answers ≡ 0 → result_of image joined answers ≡ 0
@@ -123,7 +123,7 @@ module _ (image cut joined : List ℕ) (i m n : ℕ) (s : Spanned cut joined i m
   cut_answered answers answers' ok short roomy =
       let c = (an_answered_call_passed_all image joined answers ok).checks in
       let l = s.longer in
-      passed_all_is_answered image cut answers' (record { checks = record { good_image = c.good-image; whole_records = omega arith; not_above = short; good_before = cut_good c.good-before }; roomy = roomy })
+      passed_all_is_answered image cut answers' (record { checks = record { good_image = c.good_image; whole_records = omega arith; not_above = short; good_before = cut_good c.good_before }; roomy = roomy })
 
   -- ---- the devices
   -- the device before the span, and the steps of the span

@@ -1,6 +1,6 @@
 -- What happens to the interrupt controller keeps its part of the image rule: pending stays within enabled, in-service stays empty where S is 0.
 -- Assumes nothing.
-use Prim.Native.Nat.{ℕ, ◌+◌, ◌-◌, ◌*◌, ◌/◌, ◌%◌, ◌<◌}
+use Prim.Native.Nat.{ℕ, ◌+◌, ◌*◌, ◌/◌, ◌%◌, ◌<◌}
 use mathlib.Core.Path.{◌≡◌, refl, sym, ap, ap₂, ◌∙◌}
 use mathlib.Core.Bool.{Bool, true, false, cond, ◌&&◌, ◌||◌, false≢true, true≢false}
 use native.Mathlib.Nat.{mod-lt, lt_of_le_of_lt, div-add-mod', mul-div_cancel}

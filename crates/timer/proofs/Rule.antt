@@ -1,6 +1,6 @@
 -- What happens to a timer keeps its part of the image rule: its position stays below its divisor, and 0 in modes 0 and 8.
 -- Assumes nothing.
-use Prim.Native.Nat.{ℕ, zero, suc, ◌%◌, ◌≤◌}
+use Prim.Native.Nat.{ℕ, zero, suc, ◌%◌}
 use mathlib.Core.Path.{◌≡◌, refl, sym, ap, ap₂, ◌∙◌}
 use mathlib.Core.Bool.{Bool, true, false, cond}
 use native.Mathlib.Nat.{le_trans}

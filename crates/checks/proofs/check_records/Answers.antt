@@ -1,6 +1,6 @@
 -- `checks::check_records` meets its contract. The loop's invariant: the check of all is that of the records from i on.
 -- The measure is how many are left. Assumes nothing.
-use Prim.Native.Nat.{◌-◌, ◌*◌, ◌≤◌}
+use Prim.Native.Nat.{◌-◌, ◌*◌}
 use Rattle.checks.proofs.Walk.{check_bad, check_valid, check_none}
 use Rattle.checks.specs.Checks.{first_bad}
 use Rattle.record.proofs.Verdicts.{sound, wrong}

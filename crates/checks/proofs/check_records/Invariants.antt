@@ -1,13 +1,8 @@
 -- `checks::check_records` meets its contract. The loop's invariant: the check of all is that of the records from i on.
 -- The measure is how many are left. Assumes nothing.
-use Prim.Native.Nat.{◌-◌, ◌*◌, ◌≤◌}
-use Rattle.checks.proofs.Walk.{check_bad, check_valid, check_none}
+use Prim.Native.Nat.{◌-◌, ◌≤◌}
 use Rattle.checks.specs.Checks.{first_bad}
-use Rattle.record.proofs.Verdicts.{sound, wrong}
-use Rattle.record.specs.Records.{record_bytes}
-use Rattle.tape.specs.Tapes.{decoded}
-use mathlib.Core.Path.{◌≡◌, sym, ap, ◌∙◌}
-use native.Mathlib.Omega.{arith}
+use mathlib.Core.Path.{◌≡◌}
 use Rattle.checks.proofs.check_records.Given as goal
 
 abbrev pub invariant-loop-i : goal.invariant-loop-i

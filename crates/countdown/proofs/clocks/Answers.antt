@@ -3,7 +3,6 @@ use Rattle.countdown.proofs.AtOnce.{idle_clocks, idle_timeouts, clocks_at_once, 
 use Rattle.countdown.specs.Countdown.{toggled, timeouts_in, counter_after}
 use Rattle.timer.proofs.Clocked.{running_divisor}
 use Rattle.timer.specs.Timers.{clocks, timeouts}
-use borrow.Author.Tests.{not-true, not-false}
 use mathlib.Core.Path.{refl, ap, ◌∙◌, sym}
 use native.Mathlib.Omega.{arith}
 use Rattle.countdown.proofs.clocks.Goals as goal

@@ -8,7 +8,7 @@ use Rattle.interrupts.specs.declared.Interrupts.{Interrupts}
 use Rattle.layout.specs.Layout.{lines_from, interrupts_from, timers_from, device_of}
 use Rattle.lines.specs.declared.Lines.{Lines}
 use Rattle.timers.specs.declared.Timers.{Timers}
-use borrow.Author.Tests.{eq-eqb, ne_eqb, not-true, not-false}
+use borrow.Author.Tests.{eq-eqb, ne_eqb}
 use mathlib.Core.List.{List}
 use mathlib.Core.Path.{◌≡◌, refl, sym, ap, ◌∙◌}
 use Rattle.image.proofs.load.Goals as goal

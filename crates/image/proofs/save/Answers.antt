@@ -5,7 +5,7 @@ use Rattle.device.specs.declared.Device.{Device}
 use Rattle.events.specs.declared.Refusal.TheVariants.{ImageLength, ImageRule}
 use Rattle.image.specs.Image.{stored_over, saved_of, saved_over}
 use Rattle.image.specs.declared.Saved.TheVariants.{Written, NotWritten}
-use borrow.Author.Tests.{eq-eqb, ne_eqb, not-true, not-false}
+use borrow.Author.Tests.{eq-eqb, ne_eqb}
 use lib.Dec.{eqb}
 use lib.ListN.{length}
 use mathlib.Core.Bool.{Bool, true, false, cond}

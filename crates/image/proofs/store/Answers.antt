@@ -4,10 +4,9 @@ use Rattle.device.specs.declared.Device.{Device}
 use Rattle.image.specs.Image.{stored_over}
 use Rattle.layout.specs.Layout.{image_of}
 use borrow.Author.Tests.{eq-eqb, ne_eqb}
-use lib.ListN.{length, take, drop}
-use lib.Seq.{take-length, drop-length}
-use mathlib.Core.List.{List, ◌++◌, append-nil}
-use mathlib.Core.Path.{◌≡◌, refl, sym, ap, ap₂, ◌∙◌}
+use lib.ListN.{length}
+use mathlib.Core.List.{List}
+use mathlib.Core.Path.{◌≡◌, refl, ◌∙◌}
 use Rattle.image.proofs.store.Goals as goal
 
 -- an image over a buffer of its length

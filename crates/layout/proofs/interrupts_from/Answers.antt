@@ -7,9 +7,9 @@ pub returns : goal.returns
 unfolding interrupts_from
 returns c =
     λ k. record {
-  enabled = c.pair.ensures k;
-  pending = c.pair-2.ensures k;
-  service = c.pair-3.ensures k;
-  mask = c.pair-4.ensures k;
-  vector = byte c.args.image.now 13;
-}
+      enabled = c.pair.ensures k;
+      pending = c.pair-2.ensures k;
+      service = c.pair-3.ensures k;
+      mask = c.pair-4.ensures k;
+      vector = byte c.args.image.now 13;
+    }

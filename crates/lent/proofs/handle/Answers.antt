@@ -8,7 +8,6 @@ use Rattle.lent.specs.Handling.{handled_of}
 use Rattle.lent.specs.declared.Handled.{Handled}
 use Rattle.lent.specs.declared.Outcome.TheVariants.{Answered}
 use Rattle.step.specs.Events.{step_of}
-use borrow.Author.Tests.{not-true, not-false}
 use mathlib.Core.Bool.{true}
 use mathlib.Core.Path.{◌≡◌, refl, sym, ap, ◌∙◌}
 use Rattle.lent.proofs.handle.Goals as goal

@@ -1,6 +1,6 @@
 -- `record::kind_verdict` meets its contract, kind by kind. Assumes nothing.
 use Rattle.std.proofs.Common.{arith, ◌≤◌}
-use Prim.Native.Nat.{ℕ, zero-le}
+use Prim.Native.Nat.{ℕ}
 use Rattle.channels.specs.Channels.{line, channel}
 use Rattle.events.specs.Ranges.{is_serial_channel}
 use Rattle.events.specs.declared.Event.TheVariants.{Reset, Level, Input, Clocks, Acknowledge, Raise}
@@ -10,7 +10,6 @@ use Rattle.record.specs.Records.{Raw, reading, writing, input_of, event_of, raw_
 use Rattle.record.specs.Verdicts.{verdict_of}
 use Rattle.record.specs.declared.Decoded.TheVariants.{Valid}
 use Rattle.record.specs.declared.Verdict.{Verdict}
-use Rattle.selects.proofs.Numbers.{past}
 use Rattle.selects.specs.Selects.{read_select, write_select}
 use Rattle.selects.specs.declared.Selected.{Selected}
 use lib.Dec.{leb, eqb}

@@ -1,6 +1,5 @@
 -- `record::verdict_at` meets its contract: the mark, then kind and operands. Assumes nothing.
 use Rattle.record.specs.Records.{meant}
-use borrow.Author.Tests.{not-true, not-false}
 use mathlib.Core.Path.{refl, sym, ◌∙◌}
 use Rattle.record.proofs.verdict_at.Goals as goal
 

@@ -5,7 +5,6 @@ use Rattle.requests.proofs.Requests.{requesting_below, held, nobody_passes_on, v
 use Rattle.requests.specs.Requests.{vector_of}
 use Rattle.requests.specs.declared.Acknowledged.{Acknowledged}
 use Rattle.requests.specs.declared.Reply.TheVariants.{Vector}
-use borrow.Author.Tests.{not-true, not-false}
 use mathlib.Core.Path.{sym, ap, ◌∙◌}
 use native.Mathlib.Omega.{arith}
 use Rattle.requests.proofs.acknowledge.Goals as goal

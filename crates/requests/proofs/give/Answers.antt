@@ -1,5 +1,5 @@
 -- `requests::give` meets its contract. Assumes nothing.
-use Prim.Native.Nat.{ℕ, ◌-◌}
+use Prim.Native.Nat.{◌-◌}
 use Rattle.channels.specs.Channels.{set_of}
 use Rattle.requests.specs.Requests.{given}
 use lib.Bits.{bit_and, bit_or}

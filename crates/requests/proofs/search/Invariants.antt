@@ -1,12 +1,10 @@
 -- `requests::search` meets its contract. The loop's invariant: no channel from c up requests, so that the highest is
 -- the highest below c. The measure is c. Assumes nothing.
-use Prim.Native.Nat.{◌-◌, ◌≤◌}
+use Prim.Native.Nat.{◌≤◌}
 use Rattle.interrupts.specs.declared.Interrupts.{Interrupts}
-use Rattle.requests.proofs.Requests.{nobody, asks_request, walk_found, walk_on}
 use Rattle.requests.specs.Requests.{highest_below, highest}
 use lib.Bits.{bit_and}
-use mathlib.Core.Path.{◌≡◌, refl, sym, ◌∙◌}
-use native.Mathlib.Omega.{arith}
+use mathlib.Core.Path.{◌≡◌}
 use Rattle.requests.proofs.search.Given as goal
 
 abbrev pub invariant-loop-c : goal.invariant-loop-c

@@ -1,8 +1,7 @@
 -- `row_images::acknowledge_images` meets its contract. The loop's invariant is `Going`: what is done and what is left make the whole row.
 -- The measure is how many images are left. Assumes nothing.
-use Prim.Native.Nat.{◌-◌}
-use Rattle.row_images.proofs.Going.{Going, going_begins, going_on, fits, accepted, going_ends}
-use mathlib.Core.Logic.{inl, inr, ⊎_elim}
+use Rattle.row_images.proofs.Going.{going_begins, going_on, fits, accepted, going_ends}
+use mathlib.Core.Logic.{inl, inr}
 use native.Mathlib.Omega.{arith}
 use Rattle.row_images.proofs.acknowledge_images.Goals as goal
 use Rattle.row_images.proofs.acknowledge_images.Goals.{then-a-class_of, else-a-class_of}

@@ -6,10 +6,9 @@ use Rattle.row_images.proofs.Records.{of_none}
 use Rattle.row_images.specs.Private.{image_at}
 use Rattle.row_images.specs.RowImages.{refused_at}
 use Rattle.run.specs.Runs.{result_of}
-use borrow.Rule.Slice.PartMut.{mid_of, mid_len}
-use lib.ListN.{length, take, drop, replicate}
-use lib.Seq.{take-length}
-use mathlib.Core.List.{List, [], ◌++◌, append-nil}
+use borrow.Rule.Slice.PartMut.{mid_of}
+use lib.ListN.{length, take, drop}
+use mathlib.Core.List.{List, []}
 use mathlib.Core.Path.{◌≡◌, ap, ap₂, ◌∙◌}
 use native.Mathlib.Omega.{arith}
 use Rattle.row_images.proofs.check_image.Goals as goal

@@ -1,6 +1,6 @@
 -- `row_images::check_images` meets its contract. The loop's invariant: the check of all is that of the images from i on.
 -- The measure is how many are left. Assumes nothing.
-use Prim.Native.Nat.{◌+◌, ◌-◌, ◌*◌, ◌≤◌}
+use Prim.Native.Nat.{◌+◌, ◌-◌, ◌*◌}
 use Rattle.image.specs.Image.{load_of}
 use Rattle.layout.specs.Layout.{image_bytes}
 use Rattle.row_images.proofs.Checks.{bad_code, fine_code, code_low, check_at, check_none}

@@ -1,14 +1,10 @@
 -- `row_images::check_images` meets its contract. The loop's invariant: the check of all is that of the images from i on.
 -- The measure is how many are left. Assumes nothing.
-use Prim.Native.Nat.{◌+◌, ◌-◌, ◌*◌, ◌≤◌}
-use Rattle.image.specs.Image.{load_of}
+use Prim.Native.Nat.{◌-◌, ◌*◌, ◌≤◌}
 use Rattle.layout.specs.Layout.{image_bytes}
-use Rattle.row_images.proofs.Checks.{bad_code, fine_code, code_low, check_at, check_none}
-use Rattle.row_images.specs.Private.{image_at}
 use Rattle.row_images.specs.RowImages.{first_refused}
 use lib.ListN.{drop}
-use mathlib.Core.Path.{◌≡◌, sym, ap, ◌∙◌}
-use native.Mathlib.Omega.{arith}
+use mathlib.Core.Path.{◌≡◌}
 use Rattle.row_images.proofs.check_images.Given as goal
 
 abbrev pub invariant-loop-i : goal.invariant-loop-i

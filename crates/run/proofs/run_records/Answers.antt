@@ -1,6 +1,6 @@
 -- `run::run_records` meets its contract. The loop's invariant is `Going`: what is done and what is left make the whole run.
 -- The measure is how many records are left. Assumes nothing.
-use Prim.Native.Nat.{ℕ, ◌+◌, ◌-◌, ◌*◌, ◌≤◌, ◌<◌}
+use Prim.Native.Nat.{ℕ, ◌+◌, ◌*◌, ◌≤◌, ◌<◌}
 use Rattle.answer.specs.Answers.{answer_bytes, answer_of}
 use Rattle.checks.proofs.Walk.{check_fine}
 use Rattle.device.specs.declared.Device.{Device}

@@ -1,7 +1,5 @@
 -- `selects::register_of` meets its contract: the table is the definition's. Assumes nothing.
 use Rattle.std.proofs.Common.{arith, ◌≤◌}
-use Prim.Native.Nat.{zero-le}
-use Rattle.selects.proofs.Numbers.{past}
 use Rattle.selects.specs.Selects.{registers, register_of}
 use Rattle.selects.specs.declared.Selected.TheVariants.{SerialPort}
 use lib.ListN.{get_or-eq_default}

@@ -1,13 +1,12 @@
 -- `tape::event_at` meets its contract: what is taken of a record, kind by kind. Assumes nothing.
 use Rattle.std.proofs.Common.{◌≤◌, arith}
-use Prim.Native.Nat.{ℕ, ◌+◌, zero-le}
+use Prim.Native.Nat.{ℕ, ◌+◌}
 use Rattle.bits.specs.Bytes.{byte}
 use Rattle.channels.specs.Channels.{channel}
 use Rattle.events.specs.declared.Event.TheVariants.{Read, Write, Input, Clocks, Raise}
 use Rattle.events.specs.declared.Event.{Event}
 use Rattle.record.specs.Records.{raw_at}
 use Rattle.record.specs.Taken.{taken_as, taken}
-use Rattle.selects.proofs.Numbers.{past}
 use Rattle.selects.specs.Selects.{known_of}
 use lib.Dec.{eqb}
 use lib.ListN.{get_or, get_or-eq_default}

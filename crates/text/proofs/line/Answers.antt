@@ -1,9 +1,8 @@
 -- `text::line` meets its contract: its parts one after the other. Assumes nothing.
 use Prim.Native.Nat.{◌≤◌}
-use Rattle.text.proofs.Sizes.{Takes, index_takes, line_fits}
+use Rattle.text.proofs.Sizes.{index_takes, line_fits}
 use Rattle.text.proofs.Stores.{puts_append}
 use Rattle.text.proofs.Whole.{short, long}
-use Rattle.text.specs.Lines.{index_most}
 use Rattle.text.specs.Lines.{line_of, line_most}
 use lib.ListN.{length}
 use native.Mathlib.Omega.{arith}

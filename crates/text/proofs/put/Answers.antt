@@ -1,9 +1,9 @@
 -- `text::put` meets its contract. The loop's invariant: the first i bytes of the text are put, and the buffer has its length. The measure is what is left of the text. Assumes nothing.
-use Prim.Native.Nat.{◌-◌, ◌≤◌, zero-le}
+use Prim.Native.Nat.{zero-le}
 use Rattle.text.proofs.Stores.{sets_next}
-use lib.ListN.{length, take, length-set}
-use lib.Seq.{sets, take_all}
-use mathlib.Core.Path.{◌≡◌, refl}
+use lib.ListN.{length-set}
+use lib.Seq.{take_all}
+use mathlib.Core.Path.{refl}
 use native.Mathlib.Omega.{arith}
 use Rattle.text.proofs.put.Goals as goal
 

@@ -1,8 +1,7 @@
 -- `text::refused` meets its contract: the word and two numbers. Assumes nothing.
-use Rattle.text.proofs.Sizes.{Takes, index_takes, refused_fits}
+use Rattle.text.proofs.Sizes.{index_takes, refused_fits}
 use Rattle.text.proofs.Stores.{puts_append}
 use Rattle.text.proofs.Whole.{short, long}
-use Rattle.text.specs.Lines.{index_most}
 use Rattle.text.specs.Lines.{refused_line}
 use native.Mathlib.Omega.{arith}
 use Rattle.text.proofs.refused.Goals as goal

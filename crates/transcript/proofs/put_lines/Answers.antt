@@ -1,6 +1,6 @@
 -- `transcript::put_lines` meets its contract. The loop's invariant is `Going`: the lines put and those of the records left make the whole text.
 -- The measure is how many records are left. Assumes nothing.
-use Prim.Native.Nat.{ℕ, ◌+◌, ◌-◌, ◌*◌, ◌≤◌, ◌<◌}
+use Prim.Native.Nat.{ℕ, ◌+◌, ◌*◌, ◌≤◌, ◌<◌}
 use Rattle.checks.proofs.Walk.{check_fine}
 use Rattle.demands.proofs.Records.{record_row, range_of}
 use Rattle.device.specs.declared.Device.{Device}
@@ -21,7 +21,6 @@ use borrow.Author.Tests.{lt-leb}
 use lib.ListN.{length, take, drop}
 use mathlib.Core.Bool.{true}
 use mathlib.Core.List.{List, ◌++◌}
-use mathlib.Core.Logic.{⊎_elim}
 use mathlib.Core.Path.{◌≡◌, sym, ap, ◌∙◌}
 use native.Mathlib.Omega.{arith}
 use Rattle.transcript.proofs.put_lines.Goals as goal

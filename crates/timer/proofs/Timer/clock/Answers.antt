@@ -1,6 +1,5 @@
 -- `Timer::clock` meets its contract: the three cases of one clock. Assumes nothing.
 use Rattle.timer.proofs.Clocked.{clock_idle, clock_pulse, clock_on}
-use borrow.Author.Tests.{not-true, not-false}
 use mathlib.Core.Path.{◌∙◌, sym}
 use Rattle.timer.proofs.Timer.clock.Goals as goal
 

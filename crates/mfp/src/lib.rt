@@ -1,4 +1,4 @@
-// The C face: thin calls on lent byte buffers, and nothing else. host/include/mfp.h declares them.
+// The calls of the C face, on lent byte buffers, and nothing else. crates/mfp_c exports them to C.
 #![tactic(auto)]
 
 ghost use Rattle.std.specs.Prelude.{◌≡◌};

@@ -9,8 +9,8 @@ ghost use Rattle.rows.specs.Rows.{device_with, given_line, refused_line};
 use device::Device;
 use events::{Answer, Refusal};
 use interrupts::Interrupts;
-use libc::STDOUT_FILENO;
 use row::RowAnswer;
+use std::io;
 
 // Channel 12, on which the receiver asks, and channel 15, above it.
 const RECEIVER: u16 = 4096;
@@ -55,42 +55,34 @@ fn refused_line(r: Refusal, k: usize) -> [u8; 6]
     ]
 }
 
-fn print(a: RowAnswer) {
+fn print(rt: &impl Print, a: RowAnswer) -> io::Result<()> {
     match a {
-        RowAnswer::Given(k, v) => {
-            let line = given_line(k, v);
-            io::write_all(STDOUT_FILENO, &line);
-        }
-        RowAnswer::AllPassed => {
-            io::write_all(STDOUT_FILENO, b"P\n");
-        }
-        RowAnswer::Refused(r, k) => {
-            let line = refused_line(r, k);
-            io::write_all(STDOUT_FILENO, &line);
-        }
+        RowAnswer::Given(k, v) => rt.write_all(&given_line(k, v)),
+        RowAnswer::AllPassed => rt.write_all(b"P\n"),
+        RowAnswer::Refused(r, k) => rt.write_all(&refused_line(r, k)),
     }
 }
 
 // Four parts, of which the first has a channel in service and no request, the second and the fourth ask.
 // Then four, of which the third and the fourth break the image rule: in service, with S clear.
-fn main() {
+fn main(rt: HostRuntime) -> io::Result<()> {
     let serving = device(0, TOP, 0x48);
     let first = device(RECEIVER, 0, 0x50);
     let quiet = device(0, 0, 0);
     let last = device(RECEIVER, 0, 0x10);
     let one = row::acknowledge_four([serving, first, quiet, last]);
     let answer = one.answer;
-    print(answer);
+    print(&rt, answer)?;
     let left = one.row;
     let two = row::acknowledge_four(left);
     let answer = two.answer;
-    print(answer);
+    print(&rt, answer)?;
     let left = two.row;
     let three = row::acknowledge_four(left);
     let answer = three.answer;
-    print(answer);
+    print(&rt, answer)?;
     let broken = device(0, TOP, 0);
     let four = row::acknowledge_four([serving, first, broken, broken]);
     let answer = four.answer;
-    print(answer);
+    print(&rt, answer)
 }

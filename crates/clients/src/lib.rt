@@ -1,5 +1,5 @@
 // Clients of the public calls: small functions over nothing but the calls, whose contracts are the
-// demands. Each is proved from what the calls Promise, so a Promise that is weakened breaks a proof
+// demands. Each is proved from what the calls promise, so a promise that is weakened breaks a proof
 // here. No program needs this crate.
 #![tactic(auto)]
 

@@ -1,4 +1,4 @@
--- A countdown, one unit at a time: what a timer's position (units: clocks) and its counter (units: count pulses) have in common. Only private functions Promise it; the rules are crate timer's.
+-- A countdown, one unit at a time: what a timer's position (units: clocks) and its counter (units: count pulses) have in common. Only private functions promise it; the rules are crate timer's.
 use Rattle.std.specs.Prelude.{ℕ, zero, suc, ◌+◌, ◌-◌, ◌%◌, Bool, cond, not, eqb, ltb}
 use Rattle.timer.specs.declared.Timer.{Timer}
 use Rattle.timer.specs.Timers.{divisor}

@@ -40,6 +40,7 @@ struct Turned {
     device: Device,
 }
 
+#[tactic(auto, unfolding(crate::specs::Private::begin_of))]
 fn begin(n: usize) -> Scan
     ensures { result ≡ begin_of n }
 {

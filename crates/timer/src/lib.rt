@@ -96,6 +96,7 @@ impl Timer {
         self.counter == 1
     }
 
+    #[tactic(auto, unfolding(crate::specs::Timers::pulsed, crate::specs::Timers::reloaded, crate::specs::Timers::counted_down))]
     pub fn pulse(self) -> Timer
         ensures { result ≡ pulsed self }
     {

@@ -1,6 +1,6 @@
 //! The documents name only what there is, count the lines of the definition files right, and leave out no
 //! public function and no must-fail edit. No public function is left out of the law that it promises one
-//! outcome.
+//! outcome, and the exports say what the library says.
 #![deny(warnings)]
 
 use std::fs;
@@ -76,7 +76,7 @@ fn is_label(text: &str) -> bool {
 
 /// Whether a name stands in a text, not as a part of a longer one.
 fn has_word(text: &str, word: &str) -> bool {
-    let inside = |c: char| c.is_alphanumeric() || "_-·′".contains(c);
+    let inside = |c: char| c.is_alphanumeric() || "_-'".contains(c);
     text.match_indices(word).any(|(at, _)| {
         let before = text[..at].chars().next_back();
         let after = text[at + word.len()..].chars().next();
@@ -140,26 +140,30 @@ fn paths_of_functions_lead_there() {
     assert!(seen > 40, "{seen}");
 }
 
-/// As `rt must-fail` wants it: each text that an edit replaces stands once in its file.
+/// As `rt must-fail` wants it: each text that an edit replaces stands once in its file. It is replaced by another.
 #[test]
 fn edits_apply() {
     let mut seen = 0;
-    for library in libraries() {
-        for edit in names_in(&format!("crates/{library}/must-fail")) {
-            let edit = format!("crates/{library}/must-fail/{edit}");
+    for owner in names_in("crates") {
+        for edit in names_in(&format!("crates/{owner}/must-fail")) {
+            let edit = format!("crates/{owner}/must-fail/{edit}");
+            let before = seen;
             let (mut file, mut text, mut old) = (String::new(), String::new(), String::new());
             for line in read(&edit).lines() {
                 if let Some(name) = line.strip_prefix("file: ") {
                     file = name.to_string();
-                    text = read(&format!("crates/{library}/{file}"));
+                    text = read(&format!("crates/{owner}/{file}"));
                 } else if let Some(words) = line.strip_prefix("old: ") {
                     old = words.to_string();
                 } else if let Some(new) = line.strip_prefix("new:") {
+                    let new = new.strip_prefix(' ').unwrap_or(new);
                     assert_eq!(text.matches(&old).count(), 1, "{edit}: {file}: {old}");
-                    text = text.replace(&old, new.strip_prefix(' ').unwrap_or(new));
+                    assert_ne!(old, new, "{edit}: {file}");
+                    text = text.replace(&old, new);
                     seen += 1;
                 }
             }
+            assert!(seen > before, "{edit}: it replaces nothing");
         }
     }
     assert!(seen > 100, "{seen}");
@@ -307,10 +311,9 @@ fn rows_are_true() {
 /// The definition files that a file cites, as `crates/run/specs/Runs.antt`.
 fn cited_by(path: &str) -> Vec<String> {
     let text = read(path);
-    let places = text.split("Rattle·").skip(1);
+    let places = text.split("Rattle.").skip(1);
     let files = places.filter_map(|place| {
         let (library, rest) = place.split_once(".specs.")?;
-        let library = library.trim_end_matches("·specs");
         let file = rest.split(|c: char| !c.is_alphanumeric()).next()?;
         Some(format!("crates/{library}/specs/{file}.antt"))
     });
@@ -363,25 +366,28 @@ fn costs_are_those_measured() {
     }
 }
 
-/// Of each result and each buffer lent to be written. The contracts of clients are demands, and those of
-/// `lent::event` and `row::acknowledge`, off which no plain promise can be read, are in a file of their own.
+/// Of each result and each buffer lent to be written. The contracts of clients are demands, those of mfp_c are
+/// mfp's, and those of `lent::event` and `row::acknowledge`, off which no plain promise can be read, are in a
+/// file of their own. A name there may have a hyphen for an underscore.
 #[test]
 fn public_functions_promise_one_outcome() {
-    let laws = read("crates/clients/proofs/Unique.antt");
-    let lent = read("crates/clients/proofs/Lent.antt");
+    let laws = read("crates/clients/proofs/Unique.antt").replace('-', "_");
+    let lent = read("crates/clients/proofs/Lent.antt").replace('-', "_");
+    let mut crates = libraries();
+    crates.retain(|library| library != "clients" && library != "mfp_c");
     let mut seen = 0;
-    for library in libraries().iter().filter(|library| *library != "clients") {
+    for library in &crates {
         for (path, line) in public_functions(library) {
             let by_walk = match (library.as_str(), path.as_str()) {
                 ("lent", "event") => [
-                    "event.ensures-1",
-                    "lent-event-fixed :",
-                    "lent-event-record-fixed :",
+                    "event.ensures_1",
+                    "\nlent_event_fixed :",
+                    "\nlent_event_record_fixed :",
                 ],
                 ("row", "acknowledge") => [
-                    "row.ensures-1",
-                    "row-acknowledge-fixed :",
-                    "row-acknowledge-row-fixed :",
+                    "row.ensures_1",
+                    "\nrow_acknowledge_fixed :",
+                    "\nrow_acknowledge_row_fixed :",
                 ],
                 _ => [""; 3],
             };
@@ -389,16 +395,14 @@ fn public_functions_promise_one_outcome() {
                 assert!(by_walk.iter().all(|words| lent.contains(words)), "{path}");
                 continue;
             }
-            let name = format!("{library}-{path}")
-                .replace("::", "-")
-                .replace('_', "-");
+            let name = format!("{library}_{path}").replace("::", "_");
             let read_off = format!(
                 "{library}.proofs.{}.Reads as {name}\n",
                 path.replace("::", ".")
             );
             assert!(laws.contains(&read_off), "{read_off}");
             let result = laws
-                .matches(&format!(": FixesResult {name}.Learnt\n"))
+                .matches(&format!("\n{name}_fixed : FixesResult {name}.Learnt\n"))
                 .count();
             let results = line.matches(" -> ").count();
             assert_eq!(result, results, "{library}: {path}");
@@ -428,7 +432,7 @@ fn functions_that_ask_are_listed() {
                     name = rest.split('(').next().unwrap().to_string();
                 }
             }
-            if !line.starts_with("requires {") {
+            if !line.starts_with("requires ") {
                 continue;
             }
             let row = listed.lines().find(|row| {
@@ -444,7 +448,49 @@ fn functions_that_ask_are_listed() {
             seen += 1;
         }
     }
-    assert!(seen > 20, "{seen}");
+    assert!(seen > 40, "{seen}");
+}
+
+/// The functions of a source: the name of each, its contract from the parameters on, and its body.
+fn contracts(library: &str) -> Vec<(String, String, String)> {
+    let text = source(library);
+    let functions = text.split("fn ").skip(1);
+    functions
+        .map(|function| {
+            let (name, rest) = function.split_once('(').expect("parameters");
+            let (contract, rest) = rest.split_once("\n{\n").expect("a body");
+            let (body, _) = rest.split_once("\n}\n").expect("an end");
+            (name.to_string(), contract.to_string(), body.to_string())
+        })
+        .collect()
+}
+
+/// The exports of mfp_c have mfp's parameters, results and clauses word for word, over the same definitions, and
+/// each hands its buffers on to the function of its name.
+#[test]
+fn exports_say_what_the_library_says() {
+    let exports = source("mfp_c");
+    let ours = contracts("mfp");
+    let theirs = contracts("mfp_c");
+    let marked = exports.matches("\n#[unsafe(no_mangle)]\npub extern \"C\" fn ");
+    assert_eq!(marked.count(), theirs.len());
+    assert_eq!(theirs.len(), 3);
+    assert_eq!(ours.len(), theirs.len());
+    for ((name, contract, _), (export, exported, body)) in ours.iter().zip(&theirs) {
+        assert_eq!(name, export);
+        assert_eq!(contract, exported, "{name}");
+        assert!(contract.contains("\n    ensures {"), "{name}: {contract}");
+        let (parameters, _) = contract.split_once(')').expect("a result");
+        let words = parameters.split(", ");
+        let names: Vec<&str> = words.filter_map(|word| word.split(':').next()).collect();
+        assert_eq!(*body, format!("    mfp::{name}({})", names.join(", ")));
+    }
+    // What the clauses cite.
+    let cited = |text: &str| -> Vec<String> {
+        let lines = text.lines().filter(|line| line.starts_with("ghost use "));
+        lines.map(str::to_string).collect()
+    };
+    assert_eq!(cited(&exports), cited(&source("mfp")));
 }
 
 /// The sources of the tests, all in one text.

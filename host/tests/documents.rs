@@ -367,8 +367,8 @@ fn costs_are_those_measured() {
 }
 
 /// Of each result and each buffer lent to be written. The contracts of clients are demands, those of mfp_c are
-/// mfp's, and those of `lent::event` and `row::acknowledge`, off which no plain promise can be read, are in a
-/// file of their own. A name there may have a hyphen for an underscore.
+/// mfp's, and the lines of `lent::event` and `row::acknowledge` are in a file of their own, over promises written
+/// out. A name there may have a hyphen for an underscore.
 #[test]
 fn public_functions_promise_one_outcome() {
     let laws = read("crates/clients/proofs/Unique.antt").replace('-', "_");
@@ -378,7 +378,7 @@ fn public_functions_promise_one_outcome() {
     let mut seen = 0;
     for library in &crates {
         for (path, line) in public_functions(library) {
-            let by_walk = match (library.as_str(), path.as_str()) {
+            let written_out = match (library.as_str(), path.as_str()) {
                 ("lent", "event") => [
                     "event.ensures_1",
                     "\nlent_event_fixed :",
@@ -391,8 +391,11 @@ fn public_functions_promise_one_outcome() {
                 ],
                 _ => [""; 3],
             };
-            if by_walk[0] != "" {
-                assert!(by_walk.iter().all(|words| lent.contains(words)), "{path}");
+            if written_out[0] != "" {
+                assert!(
+                    written_out.iter().all(|words| lent.contains(words)),
+                    "{path}"
+                );
                 continue;
             }
             let name = format!("{library}_{path}").replace("::", "_");

@@ -1,4 +1,4 @@
--- `lent::event` and `row::acknowledge` promise one outcome too. The checker reads no promise off a contract over lent records, so each is said here, and proved to be the very clause of its contract: a weakened contract breaks `event_clause` or `row_clause`.
+-- `lent::event` and `row::acknowledge` promise one outcome too. Each promise is written out here, and proved to be the very clause of its contract: a weakened contract breaks `event_clause` or `row_clause`.
 -- Assumes nothing.
 use mathlib.Core.Path.{◌≡◌, refl, sym, ◌∙◌}
 use mathlib.Core.List.{List}

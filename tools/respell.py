@@ -5,7 +5,8 @@ usage: python3 tools/respell.py        at the top, once, over files that port.py
 
 Only names that specs/ and proofs/ declare are turned: `bitValue` becomes `bit_value`, `an-event-changes-only-its-row`
 becomes `an_event_changes_only_its_row`, `firstBad·at` becomes `first_bad_at`. A name that Rattle makes (a goal of a
-function, its answer in that function's proof) stays. They are turned in specs/, proofs/, clauses, edits and pages.
+function, its answer in that function's proof) stays. They are turned in specs/, proofs/, src/ and edits, comments too,
+and in what pages have between backticks.
 """
 
 import collections
@@ -76,6 +77,9 @@ def declared():
 
 
 def main():
+    # a second run would turn names that have their final words
+    if os.path.exists("docs/PORT.md"):
+        sys.exit("respell: docs/PORT.md says that the spelling was turned already")
     own, made = declared()
     turned = {}
     for name, paths in own.items():

@@ -366,9 +366,9 @@ fn costs_are_those_measured() {
     }
 }
 
-/// Of each result and each buffer lent to be written. The contracts of clients are demands, those of mfp_c are
-/// mfp's, and the lines of `lent::event` and `row::acknowledge` are in a file of their own, over promises written
-/// out. A name there may have a hyphen for an underscore.
+/// Of each result and each buffer lent to be written. The contracts of clients are demands, and the lines of
+/// `lent::event` and `row::acknowledge` are in a file of their own, over promises written out. Those of mfp_c say
+/// that it promises what mfp does. A name there may have a hyphen for an underscore.
 #[test]
 fn public_functions_promise_one_outcome() {
     let laws = read("crates/clients/proofs/Unique.antt").replace('-', "_");
@@ -417,6 +417,18 @@ fn public_functions_promise_one_outcome() {
         }
     }
     assert!(seen > 80, "{seen}");
+    let same = read("crates/mfp_c/proofs/Same.antt").replace('-', "_");
+    let exports = public_functions("mfp_c");
+    assert_eq!(exports.len(), 3);
+    for (name, _) in exports {
+        for words in [
+            format!("\nuse Rattle.mfp.proofs.{name}.Reads as {name}\n"),
+            format!("\nuse Rattle.mfp_c.proofs.{name}.Reads as exported_{name}\n"),
+            format!("\n{name}_same : exported_{name}.Learnt ≡ {name}.Learnt\n"),
+        ] {
+            assert!(same.contains(&words), "{words}");
+        }
+    }
 }
 
 /// The public ones also by their paths, where it says why they ask.

@@ -1,5 +1,5 @@
 -- Each public function promises one outcome: its contract is an equation, or several, between what it gives or leaves and a definition. One law, and a line for each function.
--- `lent::event` and `row::acknowledge` are not here but in Lent.antt, over promises written out. Assumes nothing.
+-- `lent::event` and `row::acknowledge` are not here but in Lent.antt, over promises written out; the exports promise what mfp does (mfp_c, Same.antt). Assumes nothing.
 use mathlib.Core.Path.{◌≡◌, sym, ◌∙◌}
 use Rattle.clients.specs.Unique.{FixesResult, FixesBuffer}
 use Rattle.timer.proofs.divisor_of.Reads as timer-divisor-of

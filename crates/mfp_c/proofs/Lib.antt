@@ -1,0 +1,2 @@
+-- What the exports promise, beside mfp.
+pub mod Same

@@ -1,7 +1,7 @@
 // Lines and channels, sets of channels, and a set's two registers. A set is a u16 in which channel c is
 // bit c. The rules stand in specs/Channels.antt. A line number and a channel number are kept apart.
 // Every function is total.
-#![tactic(auto)]
+#![tactic(auto, unfolding(crate::specs::Channels::channel_of, crate::specs::Channels::has, crate::specs::Channels::set_of, crate::specs::Channels::half, crate::specs::Channels::with_half, crate::specs::Raises::raised_by))]
 
 ghost use Rattle.std.specs.Prelude.{◌≡◌, ℕ, ◌/◌, ◌%◌, ◌^◌, ◌<◌};
 ghost use Rattle.channels.specs.Channels.{set_of, channel_of, half, with_half};
@@ -24,36 +24,26 @@ pub enum Half {
 
 const CHANNELS: [u8; 8] = [0, 1, 2, 3, 6, 7, 14, 15];
 
-// The channel of a line.
+// The channel of a line; above line 7 the number 16 of the definition `channel_of`, which is in no set: an Option
+// would be unwrapped to it by every caller.
 pub fn channel_of(line: Line) -> Channel
     ensures { result ≡ channel_of line }
 {
-    let number = line.0 as usize;
-    if 8 <= number {
-        return Channel(16);
-    }
-    Channel(CHANNELS[number])
+    Channel(CHANNELS.get(usize::from(line.0)).copied().unwrap_or(16))
 }
 
 // The set of one channel.
 pub fn set_of(c: Channel) -> u16
     ensures { result ≡ set_of c }
 {
-    let bit = c.0;
-    if 16 <= bit {
-        return 0;
-    }
-    1u16 << bit
+    if c.0 < 16 { 1u16 << c.0 } else { 0 }
 }
 
 // The set of a channel, or none.
 pub fn only_if(b: bool, c: Channel) -> u16
     ensures { result ≡ only_if b c }
 {
-    if b {
-        return set_of(c);
-    }
-    0
+    if b { set_of(c) } else { 0 }
 }
 
 // The lowest channel of a register: shifted down by it, a set has the register in its low byte.

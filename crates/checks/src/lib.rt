@@ -2,69 +2,38 @@
 // anything is run.
 #![tactic(auto)]
 
-ghost use Rattle.std.specs.Prelude.{◌≡◌, ◌+◌, ◌*◌, ◌/◌, ◌≤◌, ◌<◌, length};
-ghost use Rattle.record.specs.Records.{record_bytes};
-ghost use Rattle.tape.specs.Tapes.{tape_most};
-ghost use Rattle.checks.specs.Checks.{first_bad, returned, tape_result};
+ghost use Rattle.std.specs.Prelude.{◌≡◌};
+ghost use Rattle.checks.specs.Checks.{checked};
 
 use answer::ANSWER_BYTES;
-use events::Refusal;
-use record::{RECORD_BYTES, Verdict};
+use events::{Refusal, RefusedAt};
+use record::RECORD_BYTES;
 use tape::TAPE_MOST;
 
-// What the check of a tape's records finds: nothing, or the first refusal and its record's index.
-#[derive(Clone, Copy)]
-pub enum Checked {
-    Fine,
-    Bad(Refusal, usize),
-}
-
-// ---- the check of all records
-
-fn check_records(tape: &[u8], n: usize) -> Checked
-    requires { n * record_bytes ≤ length tape.now }
-    ensures { result ≡ first_bad tape.now 0 n }
+// Nothing, or the refusal of a tape whose answers have `room` bytes, the length of a buffer that it is not lent:
+// 4, 5 to 8, 9.
+#[tactic(auto, unfolding(crate::specs::Checks::checked, crate::specs::Checks::first_bad, tape::specs::Tapes::fitting))]
+pub fn check(tape: &[u8], room: usize) -> Result<(), RefusedAt>
+    ensures { result ≡ checked tape.now room }
 {
-    let mut i = 0;
-    while i < n {
-        let v = record::verdict_at(tape, i * RECORD_BYTES);
-        if let Verdict::Wrong(r) = v {
-            return Checked::Bad(r, i);
-        }
-        i += 1;
+    if tape.len() % RECORD_BYTES != 0 || TAPE_MOST < tape.len() {
+        return Err(RefusedAt {
+            refusal: Refusal::TapeLength,
+            index: 0,
+        });
     }
-    Checked::Fine
-}
-
-// ---- the check of a whole tape
-
-// The number of a refusal of record i.
-fn coded(r: Refusal, i: usize) -> u32
-    requires { i < tape_most / record_bytes }
-    ensures { result ≡ returned r i }
-{
-    256 * (i as u32) + events::number_of(r) as u32
-}
-
-// 0, or the refusal of a tape whose answers have `room` bytes: 4, 5 to 8, 9.
-pub fn check(tape: &[u8], room: usize) -> u32
-    ensures { result ≡ tape_result tape.now room }
-{
-    if tape.len() % RECORD_BYTES != 0 {
-        return coded(Refusal::TapeLength, 0);
+    let (records, _) = tape.as_chunks::<RECORD_BYTES>();
+    for (i, bytes) in records.iter().enumerate() {
+        record::verdict(bytes).map_err(|refusal| RefusedAt {
+            refusal,
+            index: i as u16,
+        })?;
     }
-    if TAPE_MOST < tape.len() {
-        return coded(Refusal::TapeLength, 0);
+    if room < ANSWER_BYTES * records.len() {
+        return Err(RefusedAt {
+            refusal: Refusal::AnswerLength,
+            index: 0,
+        });
     }
-    let n = tape.len() / RECORD_BYTES;
-    let c = check_records(tape, n);
-    match c {
-        Checked::Bad(r, i) => coded(r, i),
-        Checked::Fine => {
-            if ANSWER_BYTES * n <= room {
-                return 0;
-            }
-            coded(Refusal::AnswerLength, 0)
-        }
-    }
+    Ok(())
 }

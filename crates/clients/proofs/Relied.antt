@@ -7,12 +7,10 @@ use mathlib.Core.List.{List, []}
 use lib.Dec.{eqb}
 use lib.ListN.{length}
 use borrow.Author.Tests.{eq-eqb}
+use Rattle.std.proofs.Common.{Result, Ok, Err}
 use Rattle.bits.specs.Bytes.{byte}
 use Rattle.device.specs.declared.Device.{Device}
 use Rattle.device.specs.Whole.{fresh_device, image_rule}
-use Rattle.image.specs.declared.Loaded.{Loaded}
-use Rattle.image.specs.declared.Loaded.TheVariants.{Accepted, Refused}
-use Rattle.image.specs.declared.Saved.{Saved}
 use Rattle.events.specs.declared.Refusal.{Refusal}
 use Rattle.layout.specs.Layout.{image_bytes, image_of, device_of}
 use Rattle.image.specs.Image.{load_of, stored_over, saved_of, saved_over}
@@ -36,11 +34,11 @@ module _ (image tape answers : List ℕ) (r : ℕ) (e : r ≡ result_of image ta
   answers_or_refuses f g = rw (e, f, g) (answered_or_refused image tape answers)
 
 -- ---- save and load
-pub saved_and_loaded : (d : Device) (b b' : List ℕ) (s : Saved) (l : Loaded) → s ≡ saved_of d b → b' ≡ saved_over d b → l ≡ load_of b' → SavedAndLoaded b d s l
+pub saved_and_loaded : (d : Device) (b b' : List ℕ) (s : Result (Unit {0}) Refusal) (l : Result Device Refusal) → s ≡ saved_of d b → b' ≡ saved_over d b → l ≡ load_of b' → SavedAndLoaded b d s l
 unfolding saved_of saved_over stored_over
 saved_and_loaded d b b' s l g e f h r = (g ∙ rw (r, eq-eqb _ _ h) refl, f ∙ ap load_of (e ∙ rw (r, eq-eqb _ _ h) refl) ∙ load_of_save d r)
 
-saved_same : (d : Device) (b b' : List ℕ) → ((k : ℕ) → byte b k < 256) → load_of b ≡ Accepted d → b' ≡ saved_over d b → b' ≡ b
+saved_same : (d : Device) (b b' : List ℕ) → ((k : ℕ) → byte b k < 256) → load_of b ≡ Ok d → b' ≡ saved_over d b → b' ≡ b
 unfolding saved_over stored_over
 saved_same d b b' f e g = g ∙ go (image_rule d) (eqb (length b) image_bytes)
   where
@@ -49,13 +47,13 @@ saved_same d b b' f e g = g ∙ go (image_rule d) (eqb (length b) image_bytes)
     go true false = refl
     go false y = refl
 
-accepted_one : {d e : Device} → Accepted d ≡ Accepted e → d ≡ e
+accepted_one : {d e : Device} → ◌≡◌ {A = Result Device Refusal} (Ok d) (Ok e) → d ≡ e
 accepted_one p = cc
 
-not_refused : {X : Type 0} {d : Device} {r : Refusal} → Accepted d ≡ Refused r → X
-not_refused p = let z : ◌≡◌ {A = ℕ} 0 1 = cc in absurd (omega arith)
+not_refused : {X : Type 0} {d : Device} {r : Refusal} → Ok d ≡ Err r → X
+not_refused p = absurd (grind arith)
 
-pub loaded_and_saved : (d : Device) (b b' : List ℕ) (s : Saved) → ((k : ℕ) → byte b k < 256) → load_of b ≡ Accepted d → s ≡ saved_of d b → b' ≡ saved_over d b → LoadedAndSaved b b' s
+pub loaded_and_saved : (d : Device) (b b' : List ℕ) (s : Result (Unit {0}) Refusal) → ((k : ℕ) → byte b k < 256) → load_of b ≡ Ok d → s ≡ saved_of d b → b' ≡ saved_over d b → LoadedAndSaved b b' s
 unfolding saved_of
 loaded_and_saved d b b' s f e q g = record {
   written = λ h.
@@ -64,7 +62,7 @@ loaded_and_saved d b b' s f e q g = record {
   same = saved_same d b b' f e g;
 }
 
-pub refused_and_kept : (b b' : List ℕ) (s : Saved) (r : Refusal) → load_of b ≡ Refused r → b' ≡ b → LoadedAndSaved b b' s
+pub refused_and_kept : (b b' : List ℕ) (s : Result (Unit {0}) Refusal) (r : Refusal) → load_of b ≡ Err r → b' ≡ b → LoadedAndSaved b b' s
 refused_and_kept b b' s r e p = record { written = λ h. not_refused (sym ((good_image_loads b).0 h) ∙ e); same = p }
 
 -- ---- a fresh image and the empty tape

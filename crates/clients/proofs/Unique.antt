@@ -20,7 +20,6 @@ use Rattle.channels.proofs.set_of.Reads as channels-set-of
 use Rattle.channels.proofs.only_if.Reads as channels-only-if
 use Rattle.channels.proofs.half_of.Reads as channels-half-of
 use Rattle.channels.proofs.with_half.Reads as channels-with-half
-use Rattle.bits.proofs.both.Reads as bits-both
 use Rattle.bits.proofs.bit_value.Reads as bits-bit-value
 use Rattle.bits.proofs.number_from.Reads as bits-number-from
 use Rattle.bits.proofs.four_bytes.Reads as bits-four-bytes
@@ -47,9 +46,9 @@ use Rattle.timers.proofs.Timers.write.Reads as timers-Timers-write
 use Rattle.timers.proofs.Timers.outputs.Reads as timers-Timers-outputs
 use Rattle.timers.proofs.Timers.keeps_rule.Reads as timers-Timers-keeps-rule
 use Rattle.signals.proofs.input_is_active.Reads as signals-input-is-active
-use Rattle.signals.proofs.input_becomes.Reads as signals-input-becomes
-use Rattle.signals.proofs.line_raises.Reads as signals-line-raises
-use Rattle.signals.proofs.raises.Reads as signals-raises
+use Rattle.signals.proofs.Change.input_becomes.Reads as signals-Change-input-becomes
+use Rattle.signals.proofs.Change.line_raises.Reads as signals-Change-line-raises
+use Rattle.signals.proofs.Change.raises.Reads as signals-Change-raises
 use Rattle.timeouts.proofs.Timeouts.zero.Reads as timeouts-Timeouts-zero
 use Rattle.timeouts.proofs.Timeouts.channels.Reads as timeouts-Timeouts-channels
 use Rattle.timeouts.proofs.clocks.Reads as timeouts-clocks
@@ -63,13 +62,15 @@ use Rattle.events.proofs.is_in_range.Reads as events-is-in-range
 use Rattle.events.proofs.class_of.Reads as events-class-of
 use Rattle.events.proofs.value_of.Reads as events-value-of
 use Rattle.events.proofs.number_of.Reads as events-number-of
+use Rattle.events.proofs.RefusedAt.code.Reads as events-RefusedAt-code
 use Rattle.selects.proofs.read_select.Reads as selects-read-select
 use Rattle.selects.proofs.write_select.Reads as selects-write-select
 use Rattle.selects.proofs.known.Reads as selects-known
 use Rattle.record.proofs.input_of.Reads as record-input-of
-use Rattle.record.proofs.verdict_at.Reads as record-verdict-at
+use Rattle.record.proofs.operand.Reads as record-operand
+use Rattle.record.proofs.verdict.Reads as record-verdict
 use Rattle.words.proofs.middle.Reads as words-middle
-use Rattle.text.proofs.line.Reads as text-line
+use Rattle.text.proofs.Line.write.Reads as text-Line-write
 use Rattle.text.proofs.refused.Reads as text-refused
 use Rattle.device.proofs.Device.fresh.Reads as device-Device-fresh
 use Rattle.device.proofs.Device.reset.Reads as device-Device-reset
@@ -90,10 +91,11 @@ use Rattle.image.proofs.store.Reads as image-store
 use Rattle.image.proofs.save.Reads as image-save
 use Rattle.lent.proofs.handle.Reads as lent-handle
 use Rattle.lent.proofs.event_by_value.Reads as lent-event-by-value
+use Rattle.row.proofs.ieo.Reads as row-ieo
 use Rattle.row.proofs.acknowledge_four.Reads as row-acknowledge-four
 use Rattle.answer.proofs.head.Reads as answer-head
-use Rattle.answer.proofs.put_answer.Reads as answer-put-answer
-use Rattle.tape.proofs.event_at.Reads as tape-event-at
+use Rattle.answer.proofs.bytes_of.Reads as answer-bytes-of
+use Rattle.tape.proofs.event_of.Reads as tape-event-of
 use Rattle.tape.proofs.record_at.Reads as tape-record-at
 use Rattle.checks.proofs.check.Reads as checks-check
 use Rattle.run.proofs.run.Reads as run-run
@@ -165,9 +167,6 @@ channels_with_half_fixed : FixesResult channels-with-half.Learnt
 channels_with_half_fixed κs a x y s t p q = one p q
 
 -- ---- bits
-bits_both_fixed : FixesResult bits-both.Learnt
-bits_both_fixed κs a x y s t p q = one p q
-
 bits_bit_value_fixed : FixesResult bits-bit-value.Learnt
 bits_bit_value_fixed κs a x y s t p q = one p q
 
@@ -251,14 +250,14 @@ timers_Timers_keeps_rule_fixed κs a x y s t p q = one p q
 signals_input_is_active_fixed : FixesResult signals-input-is-active.Learnt
 signals_input_is_active_fixed κs a x y s t p q = one p q
 
-signals_input_becomes_fixed : FixesResult signals-input-becomes.Learnt
-signals_input_becomes_fixed κs a x y s t p q = one p q
+signals_Change_input_becomes_fixed : FixesResult signals-Change-input-becomes.Learnt
+signals_Change_input_becomes_fixed κs a x y s t p q = one p q
 
-signals_line_raises_fixed : FixesResult signals-line-raises.Learnt
-signals_line_raises_fixed κs a x y s t p q = one p q
+signals_Change_line_raises_fixed : FixesResult signals-Change-line-raises.Learnt
+signals_Change_line_raises_fixed κs a x y s t p q = one p q
 
-signals_raises_fixed : FixesResult signals-raises.Learnt
-signals_raises_fixed κs a x y s t p q = one p q
+signals_Change_raises_fixed : FixesResult signals-Change-raises.Learnt
+signals_Change_raises_fixed κs a x y s t p q = one p q
 
 -- ---- timeouts
 timeouts_Timeouts_zero_fixed : FixesResult timeouts-Timeouts-zero.Learnt
@@ -302,6 +301,9 @@ events_value_of_fixed κs a x y s t p q = one p q
 events_number_of_fixed : FixesResult events-number-of.Learnt
 events_number_of_fixed κs a x y s t p q = one p q
 
+events_RefusedAt_code_fixed : FixesResult events-RefusedAt-code.Learnt
+events_RefusedAt_code_fixed κs a x y s t p q = one p q
+
 -- ---- selects
 selects_read_select_fixed : FixesResult selects-read-select.Learnt
 selects_read_select_fixed κs a x y s t p q = one p q
@@ -316,19 +318,22 @@ selects_known_fixed κs a x y s t p q = one p q
 record_input_of_fixed : FixesResult record-input-of.Learnt
 record_input_of_fixed κs a x y s t p q = one p q
 
-record_verdict_at_fixed : FixesResult record-verdict-at.Learnt
-record_verdict_at_fixed κs a x y s t p q = one p q
+record_operand_fixed : FixesResult record-operand.Learnt
+record_operand_fixed κs a x y s t p q = one p q
+
+record_verdict_fixed : FixesResult record-verdict.Learnt
+record_verdict_fixed κs a x y s t p q = one p q
 
 -- ---- words
 words_middle_fixed : FixesResult words-middle.Learnt
 words_middle_fixed κs a x y s t p q = one p q
 
 -- ---- text
-text_line_fixed : FixesResult text-line.Learnt
-text_line_fixed κs a x y s t p q = one p.0 q.0
+text_Line_write_fixed : FixesResult text-Line-write.Learnt
+text_Line_write_fixed κs a x y s t p q = one p.0 q.0
 
-text_line_buffer_fixed : FixesBuffer text-line.Learnt (λ κs s. s.0.now)
-text_line_buffer_fixed κs a x y s t p q = one p.1.0 q.1.0
+text_Line_write_buffer_fixed : FixesBuffer text-Line-write.Learnt (λ κs s. s.1.0.now)
+text_Line_write_buffer_fixed κs a x y s t p q = one p.1.0 q.1.0
 
 text_refused_fixed : FixesResult text-refused.Learnt
 text_refused_fixed κs a x y s t p q = one p.0 q.0
@@ -402,6 +407,9 @@ lent_event_by_value_fixed : FixesResult lent-event-by-value.Learnt
 lent_event_by_value_fixed κs a x y s t p q = one p q
 
 -- ---- row
+row_ieo_fixed : FixesResult row-ieo.Learnt
+row_ieo_fixed κs a x y s t p q = one p q
+
 row_acknowledge_four_fixed : FixesResult row-acknowledge-four.Learnt
 row_acknowledge_four_fixed κs a x y s t p q = λ i. record { row = one p.1 q.1 i; answer = one p.0 q.0 i }
 
@@ -409,12 +417,12 @@ row_acknowledge_four_fixed κs a x y s t p q = λ i. record { row = one p.1 q.1 
 answer_head_fixed : FixesResult answer-head.Learnt
 answer_head_fixed κs a x y s t p q = one p q
 
-answer_put_answer_buffer_fixed : FixesBuffer answer-put-answer.Learnt (λ κs s. s.1.0.now)
-answer_put_answer_buffer_fixed κs a x y s t p q = one p q
+answer_bytes_of_fixed : FixesResult answer-bytes-of.Learnt
+answer_bytes_of_fixed κs a x y s t p q = one p q
 
 -- ---- tape
-tape_event_at_fixed : FixesResult tape-event-at.Learnt
-tape_event_at_fixed κs a x y s t p q = one p q
+tape_event_of_fixed : FixesResult tape-event-of.Learnt
+tape_event_of_fixed κs a x y s t p q = one p q
 
 tape_record_at_fixed : FixesResult tape-record-at.Learnt
 tape_record_at_fixed κs a x y s t p q = one p q

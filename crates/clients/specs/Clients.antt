@@ -1,11 +1,8 @@
 -- The demands as a client of the calls meets them: of what a call returned and of what the buffers hold, and not of the definitions behind the call.
-use Rattle.std.specs.Prelude.{ℕ, ◌+◌, ◌*◌, ◌≤◌, ◌≡◌, true, List, length}
+use Rattle.std.specs.Prelude.{ℕ, ◌+◌, ◌*◌, ◌≤◌, ◌≡◌, true, List, Result, Ok, length}
 use Rattle.device.specs.declared.Device.{Device}
 use Rattle.device.specs.Whole.{fresh_device, image_rule}
-use Rattle.image.specs.declared.Loaded.{Loaded}
-use Rattle.image.specs.declared.Loaded.TheVariants.{Accepted}
-use Rattle.image.specs.declared.Saved.{Saved}
-use Rattle.image.specs.declared.Saved.TheVariants.{Written}
+use Rattle.events.specs.declared.Refusal.{Refusal}
 use Rattle.layout.specs.Layout.{image_bytes, image_of}
 use Rattle.answer.specs.Answers.{answer_bytes}
 use Rattle.tape.specs.Tapes.{tape_most, records}
@@ -13,12 +10,12 @@ use Rattle.demands.specs.Refusals.{GoodImage}
 use Rattle.demands.specs.Tapes.{most_clocks, Spanned, SameButCounts}
 
 -- "A device saved as an image and loaded again is the same device": the buffer, the device, what the save returned and what was loaded
-abbrev pub SavedAndLoaded : List ℕ → Device → Saved → Loaded → Type 0
-SavedAndLoaded buffer d s l = length buffer ≡ image_bytes → image_rule d ≡ true → (s ≡ Written) × (l ≡ Accepted d)
+abbrev pub SavedAndLoaded : List ℕ → Device → Result (Unit {0}) Refusal → Result Device Refusal → Type 0
+SavedAndLoaded buffer d s l = length buffer ≡ image_bytes → image_rule d ≡ true → (s ≡ Ok tt) × (l ≡ Ok d)
 
 -- "an accepted image, loaded and saved, gives the same bytes": the buffer before and after, what the save returned
-pub record LoadedAndSaved (before after : List ℕ) (s : Saved) : Type 0 where
-  pub written : GoodImage before → s ≡ Written
+pub record LoadedAndSaved (before after : List ℕ) (s : Result (Unit {0}) Refusal) : Type 0 where
+  pub written : GoodImage before → s ≡ Ok tt
   pub same : after ≡ before
 
 -- a fresh image, "A tape of 0 bytes is accepted.": the answer buffer, what both calls returned, and the image and the answer buffer then

@@ -1,7 +1,7 @@
 // Any number of clocks of one timer at once, without a loop: its position is a countdown of clocks, its
 // counter one of count pulses. The rules are crate timer's, one clock at a time; the countdown itself is
 // specs/Countdown.antt.
-#![tactic(auto)]
+#![tactic(auto, unfolding(crate::specs::Countdown::span, crate::specs::Countdown::to_go, crate::specs::Countdown::toggled))]
 
 ghost use Rattle.std.specs.Prelude.{◌≡◌, ◌-◌, ◌≤◌};
 ghost use Rattle.timer.specs.Timers.{divisor, clocks, timeouts};
@@ -45,9 +45,9 @@ fn count(first: u32, period: u32, n: u32) -> Counted
     requires some_period { 1 ≤ period }
     ensures { (result.times ≡ ran_out period n first) × (result.left ≡ left period n first) }
 {
-    let p = period as u64;
-    let f = first as u64;
-    let ahead = n as u64 + p;
+    let p = u64::from(period);
+    let ahead = u64::from(n) + p;
+    let f = u64::from(first);
     if ahead < f {
         return Counted {
             times: 0,
@@ -65,10 +65,7 @@ fn count(first: u32, period: u32, n: u32) -> Counted
 fn span_of(v: u8) -> u32
     ensures { result ≡ span v }
 {
-    if v == 0 {
-        return 256;
-    }
-    v as u32
+    if v == 0 { 256 } else { u32::from(v) }
 }
 
 // The clocks of a period of d that have gone by at position p; at or past the divisor all but one (D77).
@@ -76,20 +73,14 @@ fn gone(d: u32, p: u8) -> u32
     requires { 1 ≤ d }
     ensures { result ≡ d - to_go d p }
 {
-    let position = p as u32;
-    if position < d {
-        return position;
-    }
-    d - 1
+    let position = u32::from(p);
+    if position < d { position } else { d - 1 }
 }
 
 fn toggled_by(k: u32, output: bool) -> bool
     ensures { result ≡ toggled k output }
 {
-    if k % 2 == 0 {
-        return output;
-    }
-    !output
+    if k % 2 == 0 { output } else { !output }
 }
 
 // A timer's position after n clocks that move it, and the count pulses that they give.
@@ -97,7 +88,7 @@ fn go_along(t: Timer, n: u32) -> Along
     requires { 1 ≤ divisor t.mode }
     ensures { (result.pulses ≡ pulses_in n t) × (result.position ≡ position_after n t) }
 {
-    let d = timer::divisor_of(t.mode) as u32;
+    let d = u32::from(timer::divisor_of(t.mode));
     let whole = n / d;
     let rest = n % d + gone(d, t.position);
     if rest < d {
@@ -127,13 +118,7 @@ fn go_down(t: Timer, k: u32) -> Down
 pub fn clocks(t: Timer, active: bool, n: u32) -> Clocked
     ensures { (result.timer ≡ clocks active n t) × (result.timeouts ≡ timeouts active n t) }
 {
-    if n == 0 {
-        return Clocked {
-            timer: t,
-            timeouts: 0,
-        };
-    }
-    if !t.goes(active) {
+    if n == 0 || !t.goes(active) {
         return Clocked {
             timer: t,
             timeouts: 0,
@@ -141,15 +126,13 @@ pub fn clocks(t: Timer, active: bool, n: u32) -> Clocked
     }
     let a = go_along(t, n);
     let k = go_down(t, a.pulses);
-    let next = Timer {
-        mode: t.mode,
-        reload: t.reload,
-        counter: k.counter,
-        position: a.position,
-        output: toggled_by(k.timeouts, t.output),
-    };
     Clocked {
-        timer: next,
+        timer: Timer {
+            counter: k.counter,
+            position: a.position,
+            output: toggled_by(k.timeouts, t.output),
+            ..t
+        },
         timeouts: k.timeouts,
     }
 }

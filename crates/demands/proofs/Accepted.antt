@@ -1,4 +1,7 @@
 -- A tape's events are such as keep the image rule, and a device that keeps it is what its image loads as. Assumes nothing.
+use Rattle.std.specs.Prelude.{Result, Ok, Err}
+use Rattle.events.specs.declared.Refusal.{Refusal}
+use Rattle.events.specs.declared.Event.{Event}
 use Prim.Native.Nat.{ℕ, zero, suc, ◌+◌, ◌*◌}
 use mathlib.Core.Path.{◌≡◌, refl}
 use mathlib.Core.Bool.{true}
@@ -13,8 +16,6 @@ use Rattle.timers.specs.Registers.{timer_rule, timers_rule}
 use Rattle.device.specs.Whole.{fresh_device, image_rule}
 use Rattle.step.specs.Events.{step_of}
 use Rattle.layout.specs.Layout.{image_of, device_of}
-use Rattle.record.specs.declared.Decoded.{Decoded}
-use Rattle.record.specs.declared.Decoded.TheVariants.{Valid, Invalid}
 use Rattle.record.specs.Records.{record_bytes}
 use Rattle.tape.specs.Tapes.{decoded, records, events_at, events, events_of}
 use Rattle.run.specs.Runs.{run_of, answers_of, result_of, image_after, answers_after}
@@ -31,9 +32,9 @@ unfolding events
 records_write_bytes tape zero i = tt
 records_write_bytes tape (suc k) i = go (decoded tape (i * record_bytes)) (record_row tape i) (records_write_bytes tape k (i + 1))
   where
-    go : (d : Decoded) → RecordRow tape i d → AllBytes (events tape (i + 1) k) → AllBytes (events_at d (events tape (i + 1) k))
-    go (Valid e) r later = (bytes_of r, later)
-    go (Invalid x) r later = later
+    go : (d : Result Event Refusal) → RecordRow tape i d → AllBytes (events tape (i + 1) k) → AllBytes (events_at d (events tape (i + 1) k))
+    go (Ok e) r later = (bytes_of r, later)
+    go (Err x) r later = later
 
 pub a_tape_writes_bytes : ATapeWritesBytes
 a_tape_writes_bytes tape = records_write_bytes tape (records tape) 0

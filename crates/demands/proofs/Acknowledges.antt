@@ -1,4 +1,5 @@
 -- An acknowledge of a whole device and on tapes, from the interrupt controller's laws. Assumes nothing.
+use Rattle.std.proofs.Common.{Option, Some, None}
 use Prim.Native.Nat.{ℕ, zero, suc, ◌+◌, ◌%◌, ◌^◌, ◌<◌}
 use mathlib.Core.Path.{◌≡◌, refl, sym, ap, subst, ◌∙◌}
 use mathlib.Core.Bool.{Bool, true, false, cond, not, ◌&&◌, ◌||◌, and-true, and-false, or-true, or-false, false≢true}
@@ -9,8 +10,6 @@ use borrow.Author.Tests.{eq-eqb, ne_eqb}
 use Rattle.channels.specs.declared.Channel.{Channel}
 use Rattle.interrupts.specs.declared.Interrupts.{Interrupts}
 use Rattle.requests.specs.declared.Acknowledged.{Acknowledged}
-use Rattle.requests.specs.declared.Requesting.{Requesting}
-use Rattle.requests.specs.declared.Requesting.TheVariants.{By, Nobody}
 use Rattle.channels.specs.Channels.{has, channel}
 use Rattle.interrupts.specs.Interrupts.{S}
 use Rattle.requests.specs.Requests.{requests, highest_below, highest, given, vector_of, acknowledged_by, acknowledged}
@@ -37,20 +36,20 @@ use Rattle.demands.proofs.Answers.{device_next, answer_left}
 
 -- ---- the highest requesting channel
 -- it requests, and none above it does
-walked : (i : Interrupts) (n : ℕ) (c : Channel) → highest_below n i ≡ By c → (requests i c.0 ≡ true) × ((k : ℕ) → c.0 < k → k < n → requests i k ≡ false)
+walked : (i : Interrupts) (n : ℕ) (c : Channel) → highest_below n i ≡ Some c → (requests i c.0 ≡ true) × ((k : ℕ) → c.0 < k → k < n → requests i k ≡ false)
 unfolding highest_below
 walked i zero c e = let z : ◌≡◌ {A = ℕ} 0 1 = cc in absurd (omega arith)
 walked i (suc j) c e = go (requests i j) refl (walked i j c)
   where
-    go : (b : Bool) → requests i j ≡ b → (highest_below j i ≡ By c → (requests i c.0 ≡ true) × ((k : ℕ) → c.0 < k → k < j → requests i k ≡ false))
+    go : (b : Bool) → requests i j ≡ b → (highest_below j i ≡ Some c → (requests i c.0 ≡ true) × ((k : ℕ) → c.0 < k → k < j → requests i k ≡ false))
         → (requests i c.0 ≡ true) × ((k : ℕ) → c.0 < k → k < suc j → requests i k ≡ false)
     go true h ih =
-        let f : cond (requests i j) (By (channel j)) (highest_below j i) ≡ By c = e in
-        let g : By (channel j) ≡ By c = rw h at f in
+        let f : cond (requests i j) (Some (channel j)) (highest_below j i) ≡ Some c = e in
+        let g : Some (channel j) ≡ Some c = rw h at f in
         let m : j ≡ c.0 = cc in
         (ap (requests i) (sym m) ∙ h, λ k a b. absurd (omega arith))
     go false h ih =
-        let f : cond (requests i j) (By (channel j)) (highest_below j i) ≡ By c = e in
+        let f : cond (requests i j) (Some (channel j)) (highest_below j i) ≡ Some c = e in
         let r = ih (rw h at f) in
         (r.0, λ k a b. last k b (r.1 k a) (place k j))
       where
@@ -59,7 +58,7 @@ walked i (suc j) c e = go (requests i j) refl (walked i j c)
         last k b f (is_here q) = ap (requests i) q ∙ h
         last k b f (is_after l) = absurd (omega arith)
 
-requests_highest : (i : Interrupts) (c : Channel) → highest i ≡ By c → (requests i c.0 ≡ true) × ((k : ℕ) → c.0 < k → k < 16 → requests i k ≡ false)
+requests_highest : (i : Interrupts) (c : Channel) → highest i ≡ Some c → (requests i c.0 ≡ true) × ((k : ℕ) → c.0 < k → k < 16 → requests i k ≡ false)
 unfolding highest
 requests_highest i c h = walked i 16 c h
 
@@ -69,7 +68,7 @@ unfolding requests
 not_in_service i c h = below_has_none i.service c (halves (has i.pending c && has i.mask c) (ltb i.service (2 ^ c)) h).1 c (omega arith)
 
 -- ---- one channel's vector given
-module _ (d : Device) (c : Channel) (h : highest d.interrupts ≡ By c) where
+module _ (d : Device) (c : Channel) (h : highest d.interrupts ≡ Some c) where
   abbrev i : Interrupts
   i = d.interrupts
 
@@ -108,30 +107,30 @@ unfolding effect_of acknowledged vector_of
 gives_vector d false v e = let z : ◌≡◌ {A = ℕ} 0 1 = cc in absurd (omega arith)
 gives_vector d true v e = go (highest d.interrupts) refl e
   where
-    go : (q : Requesting) → highest d.interrupts ≡ q → replied (acknowledged_by q d.interrupts).reply ≡ Vector v → Gave d (step_of d (Acknowledge true)).device (v % 16) v
-    go (By c) h p =
+    go : (q : Option Channel) → highest d.interrupts ≡ q → replied (acknowledged_by q d.interrupts).reply ≡ Vector v → Gave d (step_of d (Acknowledge true)).device (v % 16) v
+    go (Some c) h p =
         let w : vector_of c d.interrupts ≡ v = cc in
         let l : c.0 < 16 = requesting_below d.interrupts c h in
         let m : c.0 ≡ vector_of c d.interrupts % 16 = omega arith in
         subst (λ (n : ℕ). Gave d (step_of d (Acknowledge true)).device (n % 16) n) w (subst (λ (n : ℕ). Gave d (step_of d (Acknowledge true)).device n (vector_of c d.interrupts)) m (gave d c h))
-    go Nobody h p = let z : ◌≡◌ {A = ℕ} 0 1 = cc in absurd (omega arith)
+    go None h p = let z : ◌≡◌ {A = ℕ} 0 1 = cc in absurd (omega arith)
 
 pub request_is_served : RequestIsServed
 unfolding effect_of
 request_is_served d q = go (highest d.interrupts) refl (irq_found d.interrupts ∙ q)
   where
-    go : (r : Requesting) → highest d.interrupts ≡ r → found r ≡ true → Served d
-    go (By c) e f = record { value = vector_of c d.interrupts; answers = ap (λ (a : Acknowledged). replied a.reply) (vectored true d.interrupts c refl e) }
-    go Nobody e f = absurd (false≢true f)
+    go : (r : Option Channel) → highest d.interrupts ≡ r → found r ≡ true → Served d
+    go (Some c) e f = record { value = vector_of c d.interrupts; answers = ap (λ (a : Acknowledged). replied a.reply) (vectored true d.interrupts c refl e) }
+    go None e f = absurd (false≢true f)
 
 pub no_vector : NoVector
 unfolding effect_of acknowledged
 no_vector d false f = refl
 no_vector d true f = go (highest d.interrupts) f
   where
-    go : (q : Requesting) → ((v : ℕ) → replied (acknowledged_by q d.interrupts).reply ≡ Vector v → ⊥) → with_interrupts (acknowledged_by q d.interrupts).interrupts d ≡ d
-    go (By c) g = absurd (g (vector_of c d.interrupts) refl)
-    go Nobody g = refl
+    go : (q : Option Channel) → ((v : ℕ) → replied (acknowledged_by q d.interrupts).reply ≡ Vector v → ⊥) → with_interrupts (acknowledged_by q d.interrupts).interrupts d ≡ d
+    go (Some c) g = absurd (g (vector_of c d.interrupts) refl)
+    go None g = refl
 
 -- ---- an acknowledge on a tape
 -- only a vector has class 2

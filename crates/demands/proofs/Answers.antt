@@ -1,4 +1,6 @@
 -- An answered call, record by record: the device before each record, and each record's answer. Assumes nothing.
+use Rattle.std.specs.Prelude.{Result}
+use Rattle.events.specs.declared.Refusal.{Refusal}
 use Prim.Native.Nat.{ℕ, zero, suc, ◌+◌, ◌-◌, ◌*◌, ◌<◌}
 use mathlib.Core.Path.{◌≡◌, refl, sym, ap, ◌∙◌}
 use mathlib.Core.List.{List, [], ◌∷◌, ◌++◌, append_assoc}
@@ -12,7 +14,6 @@ use Rattle.events.specs.declared.Event.{Event}
 use Rattle.device.specs.declared.Stepped.{Stepped}
 use Rattle.step.specs.Events.{step_of}
 use Rattle.layout.specs.Layout.{image_of, device_of}
-use Rattle.record.specs.declared.Decoded.{Decoded}
 use Rattle.record.specs.Records.{record_bytes}
 use Rattle.tape.specs.Tapes.{decoded, records, events_at, events, events_of}
 use Rattle.answer.specs.Answers.{answer_bytes, answer_of}
@@ -34,7 +35,7 @@ device_parts image tape j k =
 
 pub device_next : (image tape : List ℕ) (i : ℕ) (e : Event) → RecordMeans tape i e → device_before image tape (i + 1) ≡ (step_of (device_before image tape i) e).device
 unfolding run_of events
-device_next image tape i e p = device_parts image tape i 1 ∙ ap (λ (d : Decoded). run_of (device_before image tape i) (events_at d [])) p
+device_next image tape i e p = device_parts image tape i 1 ∙ ap (λ (d : Result Event Refusal). run_of (device_before image tape i) (events_at d [])) p
 
 -- ---- the answers along a tape
 -- good records have an event each, and each event has an answer of its length
@@ -68,7 +69,7 @@ module _ (image tape answers : List ℕ) (ok : result_of image tape answers ≡ 
         ap (events tape 0) (let q : records tape ≡ i + suc (records tape - (i + 1)) = omega arith in q)
         ∙ events_join tape i (suc (records tape - (i + 1))) 0
         ∙ ap (λ (x : ℕ). events tape 0 i ++ events tape x (suc (records tape - (i + 1)))) (zero-add i)
-        ∙ ap (λ (d : Decoded). events tape 0 i ++ events_at d rest) p
+        ∙ ap (λ (d : Result Event Refusal). events tape 0 i ++ events_at d rest) p
 
     abbrev front : List ℕ
     front = answers_of (device_of image) (events tape 0 i)

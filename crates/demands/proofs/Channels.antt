@@ -1,4 +1,5 @@
 -- A set of channels against a power of 2, and an acknowledge where S is 0. Assumes nothing.
+use Rattle.std.proofs.Common.{Option, Some, None}
 use Prim.Native.Nat.{ℕ, ◌+◌, ◌-◌, ◌/◌, ◌%◌, ◌^◌, ◌≤◌, ◌<◌}
 use mathlib.Core.Path.{◌≡◌, refl, sym, ap, subst, ◌∙◌}
 use mathlib.Core.Bool.{Bool, true, false}
@@ -9,8 +10,6 @@ use lib.Pow.{pow_pos, pow_mono, field, mod-mod-pow}
 use borrow.Author.Tests.{lt-ltb, ltb-true, ltb-false}
 use Rattle.channels.specs.declared.Channel.{Channel}
 use Rattle.interrupts.specs.declared.Interrupts.{Interrupts}
-use Rattle.requests.specs.declared.Requesting.{Requesting}
-use Rattle.requests.specs.declared.Requesting.TheVariants.{By, Nobody}
 use Rattle.channels.specs.Channels.{has}
 use Rattle.interrupts.specs.Interrupts.{S}
 use Rattle.requests.specs.Requests.{given, highest, acknowledged_by, acknowledged}
@@ -53,6 +52,6 @@ unfolding acknowledged
 unserved false i e = refl
 unserved true i e = go (highest i)
   where
-    go : (q : Requesting) → (acknowledged_by q i).interrupts.service ≡ i.service
-    go (By c) = no_bit c i e
-    go Nobody = refl
+    go : (q : Option Channel) → (acknowledged_by q i).interrupts.service ≡ i.service
+    go (Some c) = no_bit c i e
+    go None = refl

@@ -7,6 +7,8 @@ use native.Mathlib.Omega.{arith}
 use lib.Dec.{eqb}
 use lib.ListN.{length}
 use borrow.Author.Tests.{eq-eqb, ne_eqb, eqb-true, eqb-false}
+use Rattle.std.proofs.Common.{Result, Ok, Err}
+use Rattle.events.specs.declared.Refusal.{Refusal}
 use Rattle.events.specs.declared.Event.{Event}
 use Rattle.events.specs.declared.Refusal.TheVariants.{ImageLength, ImageRule, Operand}
 use Rattle.events.specs.Ranges.{in_range}
@@ -14,12 +16,9 @@ use Rattle.device.specs.declared.Device.{Device}
 use Rattle.device.specs.Whole.{image_rule}
 use Rattle.step.specs.Events.{step_of}
 use Rattle.lent.specs.declared.Handled.{Handled}
-use Rattle.lent.specs.declared.Outcome.TheVariants.{Answered, Refused}
 use Rattle.lent.specs.Handling.{handled_of}
 use Rattle.lent.proofs.Refused.{breaks_rule, out_of_range}
 use Rattle.layout.specs.Layout.{image_bytes}
-use Rattle.image.specs.declared.Saved.{Saved}
-use Rattle.image.specs.declared.Saved.TheVariants.{Written, NotWritten}
 use Rattle.image.specs.Image.{saved_of}
 use Rattle.demands.specs.Entries.{RecordRefusedByRule, RecordRefusedByOperand, SaveRefusedByLength, SaveRefusedByRule}
 
@@ -30,23 +29,23 @@ module _ (d : Device) (e : Event) where
   found kept range =
       cond kept
       (cond range
-      (record { device = (step_of d e).device; outcome = Answered (step_of d e).answer (step_of d e).timeouts })
-      (record { device = d; outcome = Refused Operand }))
-      (record { device = d; outcome = Refused ImageRule })
+      (record { device = (step_of d e).device; outcome = Ok (record { answer = (step_of d e).answer; timeouts = (step_of d e).timeouts }) })
+      (record { device = d; outcome = Err Operand }))
+      (record { device = d; outcome = Err ImageRule })
 
   handled_by : handled_of d e ≡ found (image_rule d) (in_range e)
   unfolding handled_of
   handled_by = refl
 
-  broken : (kept range : Bool) → (found kept range).outcome ≡ Refused ImageRule → kept ≡ false
-  broken true true p = let z : ◌≡◌ {A = ℕ} 0 1 = cc in absurd (omega arith)
-  broken true false p = let z : ◌≡◌ {A = ℕ} 0 1 = cc in absurd (omega arith)
+  broken : (kept range : Bool) → (found kept range).outcome ≡ Err ImageRule → kept ≡ false
+  broken true true p = grind arith
+  broken true false p = grind arith
   broken false range p = refl
 
-  outside : (kept range : Bool) → (found kept range).outcome ≡ Refused Operand → (kept ≡ true) × (range ≡ false)
-  outside true true p = let z : ◌≡◌ {A = ℕ} 0 1 = cc in absurd (omega arith)
+  outside : (kept range : Bool) → (found kept range).outcome ≡ Err Operand → (kept ≡ true) × (range ≡ false)
+  outside true true p = grind arith
   outside true false p = (refl, refl)
-  outside false range p = let z : ◌≡◌ {A = ℕ} 0 1 = cc in absurd (omega arith)
+  outside false range p = grind arith
 
 pub record_refused_by_rule : RecordRefusedByRule
 record_refused_by_rule d e = (
@@ -61,22 +60,22 @@ record_refused_by_operand d e = (
 )
 
 -- ---- a save of a record
-abbrev saved : Bool → Bool → Saved
-saved long kept = cond long (cond kept Written (NotWritten ImageRule)) (NotWritten ImageLength)
+abbrev saved : Bool → Bool → Result (Unit {0}) Refusal
+saved long kept = cond long (cond kept (Ok tt) (Err ImageRule)) (Err ImageLength)
 
 saved_by : (d : Device) (b : List ℕ) → saved_of d b ≡ saved (eqb (length b) image_bytes) (image_rule d)
 unfolding saved_of
 saved_by d b = refl
 
-short : (long kept : Bool) → saved long kept ≡ NotWritten ImageLength → long ≡ false
-short true true p = let z : ◌≡◌ {A = ℕ} 0 1 = cc in absurd (omega arith)
-short true false p = let z : ◌≡◌ {A = ℕ} 0 1 = cc in absurd (omega arith)
+short : (long kept : Bool) → saved long kept ≡ Err ImageLength → long ≡ false
+short true true p = grind arith
+short true false p = grind arith
 short false kept p = refl
 
-unruled : (long kept : Bool) → saved long kept ≡ NotWritten ImageRule → (long ≡ true) × (kept ≡ false)
-unruled true true p = let z : ◌≡◌ {A = ℕ} 0 1 = cc in absurd (omega arith)
+unruled : (long kept : Bool) → saved long kept ≡ Err ImageRule → (long ≡ true) × (kept ≡ false)
+unruled true true p = grind arith
 unruled true false p = (refl, refl)
-unruled false kept p = let z : ◌≡◌ {A = ℕ} 0 1 = cc in absurd (omega arith)
+unruled false kept p = grind arith
 
 pub save_refused_by_length : SaveRefusedByLength
 save_refused_by_length d b = (

@@ -1,4 +1,6 @@
 -- An event changes nothing but its row: the device after it has the row's parts of its own and all others of the device before it. Assumes nothing.
+use Rattle.channels.specs.declared.Channel.{Channel}
+use Rattle.std.proofs.Common.{Option, Some, None}
 use Prim.Native.Nat.{ℕ, zero, suc, ◌+◌, ◌*◌, ◌/◌, ◌%◌, ◌<◌}
 use mathlib.Core.Path.{◌≡◌, refl, sym, ap, ap₂, ◌∙◌}
 use mathlib.Core.Bool.{Bool, true, false, cond, not, ◌&&◌}
@@ -16,8 +18,6 @@ use Rattle.channels.specs.declared.Half.{Half}
 use Rattle.channels.specs.declared.Half.TheVariants.{A as HighHalf, B as LowHalf}
 use Rattle.interrupts.specs.declared.Interrupts.{Interrupts}
 use Rattle.interrupts.specs.declared.InterruptRegister.TheVariants.{Ier, Ipr, Isr, Imr, Vr}
-use Rattle.requests.specs.declared.Requesting.{Requesting}
-use Rattle.requests.specs.declared.Requesting.TheVariants.{By, Nobody}
 use Rattle.channels.specs.Channels.{half, with_half}
 use Rattle.channels.specs.Raises.{raises, raised_by}
 use Rattle.interrupts.specs.Interrupts.{clear_interrupts, kept, raised, vector_written, interrupt_written}
@@ -286,7 +286,7 @@ by_clocks n x = clocks_each n x ∙ each ∙ ap (λ (y : Device). only (touched 
     }
 
 -- an acknowledge touches pending and service
-served : (q : Requesting) (i : Interrupts) → (acknowledged_by q i).interrupts ≡ record {
+served : (q : Option Channel) (i : Interrupts) → (acknowledged_by q i).interrupts ≡ record {
   enabled = half HighHalf i.enabled * 256 + half LowHalf i.enabled;
   pending = half HighHalf (acknowledged_by q i).interrupts.pending * 256 + half LowHalf (acknowledged_by q i).interrupts.pending;
   service = half HighHalf (acknowledged_by q i).interrupts.service * 256 + half LowHalf (acknowledged_by q i).interrupts.service;
@@ -294,8 +294,8 @@ served : (q : Requesting) (i : Interrupts) → (acknowledged_by q i).interrupts 
   vector = i.vector;
 }
 unfolding given
-served (By c) i = same_is (given c i)
-served Nobody i = same_is i
+served (Some c) i = same_is (given c i)
+served None i = same_is i
 
 by_event : (e : Event) → WritesByte e → (x : Device) → Only e x
 unfolding Only effect_of reset_device with_level with_input signalled signal_timers raised acknowledged input_active

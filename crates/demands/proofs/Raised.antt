@@ -1,4 +1,6 @@
 -- What an event raises, it raises as one set; one with a rule of its own raises nothing. Assumes nothing.
+use Rattle.channels.specs.declared.Channel.{Channel}
+use Rattle.std.proofs.Common.{Option, Some, None}
 use Prim.Native.Nat.{ℕ, ◌-◌}
 use mathlib.Core.Path.{◌≡◌, refl, sym, ap, ◌∙◌}
 use mathlib.Core.Bool.{Bool, true, false, ◌&&◌, false≢true}
@@ -11,8 +13,6 @@ use Rattle.channels.proofs.Sets.{has_and, has_none}
 use Rattle.interrupts.specs.declared.InterruptRegister.TheVariants.{Ier, Ipr, Isr, Imr, Vr}
 use Rattle.interrupts.specs.Interrupts.{raised, vector_written, interrupt_written}
 use Rattle.interrupts.proofs.Rule.{part_within, kept_within}
-use Rattle.requests.specs.declared.Requesting.{Requesting}
-use Rattle.requests.specs.declared.Requesting.TheVariants.{By, Nobody}
 use Rattle.requests.specs.Requests.{highest, given, acknowledged_by, acknowledged}
 use Rattle.interrupts.proofs.Raises.{raise_none}
 use Rattle.lines.specs.declared.LineRegister.TheVariants.{Gpdr, Aer, Ddr}
@@ -75,9 +75,9 @@ others_raise_nothing d (Input i high) h k e = absurd (h tt)
 others_raise_nothing d (Clocks n) h k e = absurd (h tt)
 others_raise_nothing d (Acknowledge iei) h k e = by_reply iei e
   where
-    taken : (q : Requesting) → has (acknowledged_by q d.interrupts).interrupts.pending k ≡ true → has d.interrupts.pending k ≡ true
-    taken (By c) p = within (bit_and d.interrupts.pending (65535 - set_of c)) d.interrupts.pending k (part_within d.interrupts.pending d.interrupts.pending (65535 - set_of c) (and_self d.interrupts.pending)) p
-    taken Nobody p = p
+    taken : (q : Option Channel) → has (acknowledged_by q d.interrupts).interrupts.pending k ≡ true → has d.interrupts.pending k ≡ true
+    taken (Some c) p = within (bit_and d.interrupts.pending (65535 - set_of c)) d.interrupts.pending k (part_within d.interrupts.pending d.interrupts.pending (65535 - set_of c) (and_self d.interrupts.pending)) p
+    taken None p = p
 
     by_reply : (b : Bool) → has (acknowledged b d.interrupts).interrupts.pending k ≡ true → has d.interrupts.pending k ≡ true
     by_reply true p = taken (highest d.interrupts) p

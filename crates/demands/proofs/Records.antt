@@ -1,4 +1,6 @@
 -- A record by document 01's words: refused by one of 5 to 8, or an event with its operands in range that writes a byte at most. Assumes nothing.
+use Rattle.std.specs.Prelude.{Option, Some, None, Result, Ok, Err}
+use Rattle.events.specs.declared.Refusal.{Refusal}
 use Prim.Native.Nat.{ℕ, zero, suc, ◌+◌, ◌*◌, ◌≤◌, ◌<◌}
 use mathlib.Core.Path.{◌≡◌, refl, ◌∙◌}
 use mathlib.Core.Bool.{Bool, true, false, cond, ◌&&◌}
@@ -16,10 +18,6 @@ use Rattle.events.specs.declared.Refusal.TheVariants.{RecordMark, Kind, Operand,
 use Rattle.events.specs.Ranges.{in_range}
 use Rattle.bits.specs.Bytes.{byte}
 use Rattle.bits.proofs.Bits.{joined}
-use Rattle.selects.specs.declared.Selected.{Selected}
-use Rattle.selects.specs.declared.Selected.TheVariants.{Known, SerialPort}
-use Rattle.record.specs.declared.Decoded.{Decoded}
-use Rattle.record.specs.declared.Decoded.TheVariants.{Valid, Invalid}
 use Rattle.selects.specs.Selects.{registers, register_of, read_select, write_select}
 use Rattle.record.specs.Records.{record_bytes, reading, writing, input_of, if_in_range, event_of, meant}
 use Rattle.tape.specs.Tapes.{decoded}
@@ -29,32 +27,32 @@ use Rattle.demands.specs.Refusals.{RecordMarked, kind_of, operand_a, operand_n, 
 use Rattle.demands.proofs.Decides.{Decides, equal_decided, most_decided, both_decided, not_held}
 
 -- ---- a register select
-data SelectRow (rs : ℕ) : Selected → Type 0 where
-  a_register : rs < 19 → (r : Register) → SelectRow rs (Known r)
-  the_serial_port : 19 ≤ rs → SelectRow rs SerialPort
+data SelectRow (rs : ℕ) : Option Register → Type 0 where
+  a_register : rs < 19 → (r : Register) → SelectRow rs (Some r)
+  the_serial_port : 19 ≤ rs → SelectRow rs None
 
 select_row : (rs : ℕ) → SelectRow rs (register_of rs)
 unfolding register_of
 select_row rs = go (leb 19 rs) refl
   where
-    is_known : Selected → Bool
-    is_known (Known r) = true
-    is_known SerialPort = false
+    is_known : Option Register → Bool
+    is_known (Some r) = true
+    is_known None = false
 
-    known : (s : Selected) → T (is_known s) → rs < 19 → SelectRow rs s
-    known (Known r) t h = a_register h r
-    known SerialPort t h = absurd t
+    known : (s : Option Register) → T (is_known s) → rs < 19 → SelectRow rs s
+    known (Some r) t h = a_register h r
+    known None t h = absurd t
 
     go : (b : Bool) → leb 19 rs ≡ b → SelectRow rs (register_of rs)
-    go true e = rw (get_or-eq_default registers SerialPort (leb-true _ _ e)) (the_serial_port (leb-true _ _ e))
+    go true e = rw (get_or-eq_default registers None (leb-true _ _ e)) (the_serial_port (leb-true _ _ e))
     go false e = known (register_of rs) (everywhere 19 (λ (k : ℕ). is_known (register_of k)) tt rs (leb-false _ _ e)) (leb-false _ _ e)
 
 -- ---- a kind and its operands
-pub data Row (kind a n : ℕ) : Decoded → Type 0 where
-  refuses_kind : 7 < kind → Row kind a n (Invalid Kind)
-  refuses_operand : kind ≤ 7 → (OperandsInRange kind a n → ⊥) → Row kind a n (Invalid Operand)
-  refuses_serial : OperandsInRange kind a n → SerialSelect kind a → Row kind a n (Invalid Serial)
-  gives_event : OperandsInRange kind a n → (SerialSelect kind a → ⊥) → (e : Event) → WritesByte e → in_range e ≡ true → Row kind a n (Valid e)
+pub data Row (kind a n : ℕ) : Result Event Refusal → Type 0 where
+  refuses_kind : 7 < kind → Row kind a n (Err Kind)
+  refuses_operand : kind ≤ 7 → (OperandsInRange kind a n → ⊥) → Row kind a n (Err Operand)
+  refuses_serial : OperandsInRange kind a n → SerialSelect kind a → Row kind a n (Err Serial)
+  gives_event : OperandsInRange kind a n → (SerialSelect kind a → ⊥) → (e : Event) → WritesByte e → in_range e ≡ true → Row kind a n (Ok e)
 
 from_19 : {kind a : ℕ} → SerialSelect kind a → 19 ≤ a
 from_19 (serial_read h l) = h
@@ -70,11 +68,11 @@ at_most_7 of_clocks = lit≤ tt
 at_most_7 (of_acknowledge h) = lit≤ tt
 at_most_7 (of_raise h l) = lit≤ tt
 
-read_row : {a : ℕ} {s : Selected} → a ≤ 23 → SelectRow a s → Row 1 a 0 (reading s)
+read_row : {a : ℕ} {s : Option Register} → a ≤ 23 → SelectRow a s → Row 1 a 0 (reading s)
 read_row h (a_register l r) = gives_event (of_read h) (λ s. let k = from_19 s in omega arith) (Read r) tt refl
 read_row h (the_serial_port l) = refuses_serial (of_read h) (serial_read l h)
 
-write_row : {a n : ℕ} {s : Selected} → a ≤ 23 → n ≤ 255 → SelectRow a s → Row 2 a n (writing s n)
+write_row : {a n : ℕ} {s : Option Register} → a ≤ 23 → n ≤ 255 → SelectRow a s → Row 2 a n (writing s n)
 write_row {n = n} h l (a_register k r) = gives_event (of_write h l) (λ s. let m = from_19 s in omega arith) (Write r n) (omega arith) refl
 write_row h l (the_serial_port k) = refuses_serial (of_write h l) (serial_write k h)
 
@@ -91,11 +89,11 @@ in_range_row (of_raise {a} h l) = rw (le-leb _ _ h, le-leb _ _ l) (gives_event (
 
 -- ---- every kind and operands
 -- where the decoder's test passes the operands are in range; where it fails they are not
-by_test : {kind a n : ℕ} (t : Bool) (d : Decoded) → event_of kind a n ≡ if_in_range t d → kind ≤ 7 → (t ≡ true → OperandsInRange kind a n) → Row kind a n (event_of kind a n)
+by_test : {kind a n : ℕ} (t : Bool) (d : Result Event Refusal) → event_of kind a n ≡ if_in_range t d → kind ≤ 7 → (t ≡ true → OperandsInRange kind a n) → Row kind a n (event_of kind a n)
 by_test true d p h f = in_range_row (f refl)
 by_test {kind} {a} {n} false d p h f = rw p (refuses_operand h (λ r. never r (rw p at (in_range_row r))))
   where
-    never : OperandsInRange kind a n → Row kind a n (Invalid Operand) → ⊥
+    never : OperandsInRange kind a n → Row kind a n (Err Operand) → ⊥
     never r (refuses_operand h f) = f r
 
 row_of : (kind a n : ℕ) → Row kind a n (event_of kind a n)
@@ -111,12 +109,12 @@ row_of (suc (suc (suc (suc (suc (suc (suc zero))))))) a n = by_test _ _ refl (li
 row_of (suc (suc (suc (suc (suc (suc (suc (suc k)))))))) a n = refuses_kind (omega arith)
 
 -- ---- a record
-abbrev pub MarkedRow : List ℕ → ℕ → Decoded → Type 0
+abbrev pub MarkedRow : List ℕ → ℕ → Result Event Refusal → Type 0
 MarkedRow tape i = Row (kind_of tape i) (operand_a tape i) (operand_n tape i)
 
-pub data RecordRow (tape : List ℕ) (i : ℕ) : Decoded → Type 0 where
-  refuses_mark : (RecordMarked tape i → ⊥) → RecordRow tape i (Invalid RecordMark)
-  past_mark : {d : Decoded} → RecordMarked tape i → MarkedRow tape i d → RecordRow tape i d
+pub data RecordRow (tape : List ℕ) (i : ℕ) : Result Event Refusal → Type 0 where
+  refuses_mark : (RecordMarked tape i → ⊥) → RecordRow tape i (Err RecordMark)
+  past_mark : {d : Result Event Refusal} → RecordMarked tape i → MarkedRow tape i d → RecordRow tape i d
 
 record_mark_decided : (tape : List ℕ) (i : ℕ) → Decides (eqb (byte tape (i * record_bytes)) 0x4D && eqb (byte tape (i * record_bytes + 1)) 0x45) (RecordMarked tape i)
 record_mark_decided tape i = both_decided _ _ (equal_decided _ _) (equal_decided _ _)
@@ -126,25 +124,25 @@ unfolding decoded meant
 record_row tape i = go (eqb (byte tape (i * record_bytes)) 0x4D && eqb (byte tape (i * record_bytes + 1)) 0x45) refl
   where
     go : (b : Bool) → (eqb (byte tape (i * record_bytes)) 0x4D && eqb (byte tape (i * record_bytes + 1)) 0x45) ≡ b
-        → RecordRow tape i (cond b (event_of (kind_of tape i) (operand_a tape i) (operand_n tape i)) (Invalid RecordMark))
+        → RecordRow tape i (cond b (event_of (kind_of tape i) (operand_a tape i) (operand_n tape i)) (Err RecordMark))
     go true e = past_mark ((record_mark_decided tape i).0 e) (row_of (kind_of tape i) (operand_a tape i) (operand_n tape i))
     go false e = refuses_mark (not_held _ (record_mark_decided tape i) e)
 
 module _ {tape : List ℕ} {i : ℕ} where
-  event_held : {d : Decoded} → RecordRow tape i d → GoodRecord tape i → Holds d
+  event_held : {d : Result Event Refusal} → RecordRow tape i d → GoodRecord tape i → Holds d
   event_held (refuses_mark f) g = absurd (f g.marked)
   event_held (past_mark m (refuses_kind h)) g = absurd (let k = at_most_7 g.operands in omega arith)
   event_held (past_mark m (refuses_operand h f)) g = absurd (f g.operands)
   event_held (past_mark m (refuses_serial r s)) g = absurd (g.no_serial s)
   event_held (past_mark m (gives_event r n e b w)) g = record { event = e; is = refl }
 
-  good_of : {e : Event} → RecordRow tape i (Valid e) → GoodRecord tape i
+  good_of : {e : Event} → RecordRow tape i (Ok e) → GoodRecord tape i
   good_of (past_mark m (gives_event r n e b w)) = record { marked = m; operands = r; no_serial = n }
 
-  pub bytes_of : {e : Event} → RecordRow tape i (Valid e) → WritesByte e
+  pub bytes_of : {e : Event} → RecordRow tape i (Ok e) → WritesByte e
   bytes_of (past_mark m (gives_event r n e b w)) = b
 
-  pub range_of : {e : Event} → RecordRow tape i (Valid e) → in_range e ≡ true
+  pub range_of : {e : Event} → RecordRow tape i (Ok e) → in_range e ≡ true
   range_of (past_mark m (gives_event r n e b w)) = w
 
 pub good_record_has_event : GoodRecordHasEvent
@@ -159,10 +157,10 @@ same_meaning_is_good s t i j p g = let h = (good_record_has_event t j).0 g in me
 
 -- ---- the rows 5 to 8, back to the decoder
 module _ (tape : List ℕ) (i : ℕ) where
-  pub record_mark_refused : (RecordMarked tape i → ⊥) → decoded tape (i * record_bytes) ≡ Invalid RecordMark
+  pub record_mark_refused : (RecordMarked tape i → ⊥) → decoded tape (i * record_bytes) ≡ Err RecordMark
   record_mark_refused f = go (record_row tape i)
     where
-      go : {d : Decoded} → RecordRow tape i d → d ≡ Invalid RecordMark
+      go : {d : Result Event Refusal} → RecordRow tape i d → d ≡ Err RecordMark
       go (refuses_mark g) = refl
       go (past_mark m r) = absurd (f m)
 
@@ -170,32 +168,32 @@ module _ (tape : List ℕ) (i : ℕ) where
     marked_row : MarkedRow tape i (decoded tape (i * record_bytes))
     marked_row = go (record_row tape i)
       where
-        go : {d : Decoded} → RecordRow tape i d → MarkedRow tape i d
+        go : {d : Result Event Refusal} → RecordRow tape i d → MarkedRow tape i d
         go (refuses_mark f) = absurd (f m)
         go (past_mark m r) = r
 
-    pub kind_refused : 7 < kind_of tape i → decoded tape (i * record_bytes) ≡ Invalid Kind
+    pub kind_refused : 7 < kind_of tape i → decoded tape (i * record_bytes) ≡ Err Kind
     kind_refused h = go marked_row
       where
-        go : {d : Decoded} → MarkedRow tape i d → d ≡ Invalid Kind
+        go : {d : Result Event Refusal} → MarkedRow tape i d → d ≡ Err Kind
         go (refuses_kind l) = refl
         go (refuses_operand l f) = absurd (omega arith)
         go (refuses_serial r s) = absurd (let k = at_most_7 r in omega arith)
         go (gives_event r n e b w) = absurd (let k = at_most_7 r in omega arith)
 
-    pub operand_refused : kind_of tape i ≤ 7 → (RecordInRange tape i → ⊥) → decoded tape (i * record_bytes) ≡ Invalid Operand
+    pub operand_refused : kind_of tape i ≤ 7 → (RecordInRange tape i → ⊥) → decoded tape (i * record_bytes) ≡ Err Operand
     operand_refused h f = go marked_row
       where
-        go : {d : Decoded} → MarkedRow tape i d → d ≡ Invalid Operand
+        go : {d : Result Event Refusal} → MarkedRow tape i d → d ≡ Err Operand
         go (refuses_kind l) = absurd (omega arith)
         go (refuses_operand l g) = refl
         go (refuses_serial r s) = absurd (f r)
         go (gives_event r n e b w) = absurd (f r)
 
-    pub serial_refused : RecordInRange tape i → RecordSerial tape i → decoded tape (i * record_bytes) ≡ Invalid Serial
+    pub serial_refused : RecordInRange tape i → RecordSerial tape i → decoded tape (i * record_bytes) ≡ Err Serial
     serial_refused r s = go marked_row
       where
-        go : {d : Decoded} → MarkedRow tape i d → d ≡ Invalid Serial
+        go : {d : Result Event Refusal} → MarkedRow tape i d → d ≡ Err Serial
         go (refuses_kind l) = absurd (let k = at_most_7 r in omega arith)
         go (refuses_operand l f) = absurd (f r)
         go (refuses_serial r s) = refl

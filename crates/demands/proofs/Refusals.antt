@@ -1,6 +1,8 @@
 -- Every call has its row of document 01's table, and no other; it ends with its answers or with a refusal. Assumes nothing.
+use Rattle.std.specs.Prelude.{Result, Ok, Err}
+use Rattle.events.specs.declared.Event.{Event}
 use Prim.Native.Nat.{ℕ, zero, suc, ◌+◌, ◌*◌, ◌%◌, ◌≤◌, ◌<◌}
-use mathlib.Core.Path.{◌≡◌, refl, sym, subst, ◌∙◌}
+use mathlib.Core.Path.{◌≡◌, refl, sym, ap, subst, ◌∙◌}
 use mathlib.Core.Bool.{Bool, true, false, ◌&&◌}
 use mathlib.Core.List.{List}
 use mathlib.Core.Logic.{inl, inr}
@@ -8,25 +10,22 @@ use native.Mathlib.Omega.{arith}
 use lib.Dec.{eqb, leb}
 use lib.ListN.{length}
 use borrow.Author.Tests.{eq-eqb, ne_eqb, eqb-true, eqb-false, leb-true, leb-false}
+use Rattle.std.proofs.Common.{Ok, Err}
 use Rattle.device.specs.declared.Device.{Device}
 use Rattle.events.specs.declared.Refusal.{Refusal}
 use Rattle.events.specs.declared.Refusal.TheVariants.{ImageLength, ImageMark, ImageRule, TapeLength, RecordMark, Kind, Operand, Serial, AnswerLength}
 use Rattle.device.specs.Whole.{image_rule}
-use Rattle.image.specs.declared.Loaded.TheVariants.{Accepted, Refused}
 use Rattle.layout.specs.Layout.{image_bytes, device_of}
 use Rattle.image.specs.Image.{unused_zero, load_of}
 use Rattle.bits.specs.Bytes.{byte}
 use Rattle.bits.proofs.Bits.{halves, joined}
 use Rattle.image.proofs.Loads.{read}
-use Rattle.record.specs.declared.Decoded.{Decoded}
-use Rattle.record.specs.declared.Decoded.TheVariants.{Valid, Invalid}
-use Rattle.checks.specs.declared.Checked.TheVariants.{Fine, Bad}
 use Rattle.record.specs.Records.{record_bytes}
 use Rattle.tape.specs.Tapes.{records, decoded}
-use Rattle.checks.specs.Checks.{first_bad_at, first_bad}
+use Rattle.checks.specs.Checks.{bad_at, first_bad_at, first_bad, result_code}
 use Rattle.answer.specs.Answers.{answer_bytes}
 use Rattle.tape.specs.Tapes.{tape_most}
-use Rattle.checks.specs.Checks.{returned}
+use Rattle.events.specs.Numbers.{returned}
 use Rattle.run.specs.Runs.{result_of, image_after, answers_after}
 use Rattle.checks.proofs.Checks.{returned_above, uneven, too_long, bad, roomy, cramped}
 use Rattle.run.proofs.Results.{by_image, by_tape}
@@ -43,24 +42,24 @@ module _ (image : List ℕ) where
   image_rule_decided : Decides (unused_zero image && image_rule (device_of image)) (ImageRuled image)
   image_rule_decided = (λ e. (byte_rule_is_record_rule image).1 (halves _ _ e), λ r. let t = (byte_rule_is_record_rule image).0 r in joined _ _ t.0 t.1)
 
-  image_length_refused : (length image ≡ image_bytes → ⊥) → load_of image ≡ Refused ImageLength
+  image_length_refused : (length image ≡ image_bytes → ⊥) → load_of image ≡ Err ImageLength
   unfolding load_of
   image_length_refused h = rw (ne_eqb _ _ h) refl
 
   module _ (h : length image ≡ image_bytes) where
-    image_mark_refused : (ImageMarked image → ⊥) → load_of image ≡ Refused ImageMark
+    image_mark_refused : (ImageMarked image → ⊥) → load_of image ≡ Err ImageMark
     unfolding load_of
     image_mark_refused f = rw (eq-eqb _ _ h, not_passed _ image_mark_decided f) refl
 
-    image_rule_refused : ImageMarked image → (ImageRuled image → ⊥) → load_of image ≡ Refused ImageRule
+    image_rule_refused : ImageMarked image → (ImageRuled image → ⊥) → load_of image ≡ Err ImageRule
     unfolding load_of
     image_rule_refused m f = rw (eq-eqb _ _ h, image_mark_decided.1 m, not_passed _ image_rule_decided f) refl
 
-  loads : GoodImage image → load_of image ≡ Accepted (device_of image)
+  loads : GoodImage image → load_of image ≡ Ok (device_of image)
   unfolding load_of
   loads g = rw (eq-eqb _ _ g.long, image_mark_decided.1 g.marked, image_rule_decided.1 g.ruled) refl
 
-  pub loaded_is_good : (d : Device) → load_of image ≡ Accepted d → GoodImage image
+  pub loaded_is_good : (d : Device) → load_of image ≡ Ok d → GoodImage image
   loaded_is_good d e = let r = read image d e in record { long = r.whole; marked = (r.first, r.second); ruled = (byte_rule_is_record_rule image).1 (r.unused, r.ruled) }
 
 pub good_image_loads : GoodImageLoads
@@ -69,52 +68,52 @@ good_image_loads image = (loads image, loaded_is_good image (device_of image))
 -- ---- the records' check
 module _ (tape : List ℕ) where
   -- good records are passed over
-  passes : (k i : ℕ) → GoodBefore tape (i + k) → first_bad tape i k ≡ Fine
+  passes : (k i : ℕ) → GoodBefore tape (i + k) → first_bad tape i k ≡ Ok tt
   unfolding first_bad
   passes zero i g = refl
   passes (suc k) i g = rw ((good_record_has_event tape i).0 (g i (omega arith))).means (passes k (i + 1) (λ j h. g j (omega arith)))
 
   -- the first that is refused is found
-  finds : (k i j : ℕ) (r : Refusal) → i ≤ j → j < i + k → GoodBefore tape j → decoded tape (j * record_bytes) ≡ Invalid r → first_bad tape i k ≡ Bad r j
+  finds : (k i j : ℕ) (r : Refusal) → i ≤ j → j < i + k → GoodBefore tape j → decoded tape (j * record_bytes) ≡ Err r → first_bad tape i k ≡ bad_at r j
   unfolding first_bad
   finds zero i j r h l g p = absurd (omega arith)
   finds (suc k) i j r h l g p = go (eqb i j) refl (finds k (i + 1) j r)
     where
-      go : (b : Bool) → eqb i j ≡ b → (i + 1 ≤ j → j < i + 1 + k → GoodBefore tape j → decoded tape (j * record_bytes) ≡ Invalid r → first_bad tape (i + 1) k ≡ Bad r j)
-          → first_bad_at (decoded tape (i * record_bytes)) i (first_bad tape (i + 1) k) ≡ Bad r j
+      go : (b : Bool) → eqb i j ≡ b → (i + 1 ≤ j → j < i + 1 + k → GoodBefore tape j → decoded tape (j * record_bytes) ≡ Err r → first_bad tape (i + 1) k ≡ bad_at r j)
+          → first_bad_at (decoded tape (i * record_bytes)) i (first_bad tape (i + 1) k) ≡ bad_at r j
       go true q ih = let e : i ≡ j = eqb-true i j q in rw e (rw p refl)
       go false q ih = let f : i ≡ j → ⊥ = eqb-false i j q in rw ((good_record_has_event tape i).0 (g i (omega arith))).means (ih (omega arith) (omega arith) g p)
 
 -- ---- no other row
 module _ (image tape answers : List ℕ) where
-  record_refused : (r : Refusal) (i : ℕ) → i < records tape → ChecksReach image tape i → decoded tape (i * record_bytes) ≡ Invalid r → returned r i ≡ result_of image tape answers
+  record_refused : (r : Refusal) (i : ℕ) → i < records tape → ChecksReach image tape i → decoded tape (i * record_bytes) ≡ Err r → returned r i ≡ result_of image tape answers
   record_refused r i h c p =
-      sym (by_tape image tape answers (device_of image) (loads image c.good_image)
-      ∙ bad tape (length answers) c.whole_records c.not_above r i (finds tape (records tape) 0 i r (omega arith) (omega arith) c.good_before p))
+      sym (ap result_code (by_tape image tape answers (device_of image) (loads image c.good_image)
+      ∙ bad tape (length answers) c.whole_records c.not_above r i (finds tape (records tape) 0 i r (omega arith) (omega arith) c.good_before p)))
 
-  all_pass : ChecksReach image tape (records tape) → first_bad tape 0 (records tape) ≡ Fine
+  all_pass : ChecksReach image tape (records tape) → first_bad tape 0 (records tape) ≡ Ok tt
   all_pass c = passes tape (records tape) 0 (λ j h. c.good_before j (omega arith))
 
 pub no_other_row : NoOtherRow
-no_other_row image tape answers _ (image_length_wrong h) = sym (by_image image tape answers ImageLength (image_length_refused image h))
-no_other_row image tape answers _ (image_mark_wrong h f) = sym (by_image image tape answers ImageMark (image_mark_refused image h f))
-no_other_row image tape answers _ (image_rule_broken h m f) = sym (by_image image tape answers ImageRule (image_rule_refused image h m f))
-no_other_row image tape answers _ (tape_length_wrong g (inl f)) = sym (by_tape image tape answers (device_of image) (loads image g) ∙ uneven tape (length answers) f)
-no_other_row image tape answers _ (tape_length_wrong g (inr h)) = sym (by_tape image tape answers (device_of image) (loads image g) ∙ too_long tape (length answers) h)
+no_other_row image tape answers _ (image_length_wrong h) = sym (ap result_code (by_image image tape answers ImageLength (image_length_refused image h)))
+no_other_row image tape answers _ (image_mark_wrong h f) = sym (ap result_code (by_image image tape answers ImageMark (image_mark_refused image h f)))
+no_other_row image tape answers _ (image_rule_broken h m f) = sym (ap result_code (by_image image tape answers ImageRule (image_rule_refused image h m f)))
+no_other_row image tape answers _ (tape_length_wrong g (inl f)) = sym (ap result_code (by_tape image tape answers (device_of image) (loads image g) ∙ uneven tape (length answers) f))
+no_other_row image tape answers _ (tape_length_wrong g (inr h)) = sym (ap result_code (by_tape image tape answers (device_of image) (loads image g) ∙ too_long tape (length answers) h))
 no_other_row image tape answers _ (record_mark_wrong i h c f) = record_refused image tape answers RecordMark i h c (record_mark_refused tape i f)
 no_other_row image tape answers _ (kind_above_7 i h c m k) = record_refused image tape answers Kind i h c (kind_refused tape i m k)
 no_other_row image tape answers _ (operand_out_of_range i h c m k f) = record_refused image tape answers Operand i h c (operand_refused tape i m k f)
 no_other_row image tape answers _ (serial_register i h c m r s) = record_refused image tape answers Serial i h c (serial_refused tape i m r s)
 no_other_row image tape answers _ (answers_too_short c h) =
-    sym (by_tape image tape answers (device_of image) (loads image c.good_image) ∙ cramped tape (length answers) c.whole_records c.not_above (all_pass image tape answers c) h)
+    sym (ap result_code (by_tape image tape answers (device_of image) (loads image c.good_image) ∙ cramped tape (length answers) c.whole_records c.not_above (all_pass image tape answers c) h))
 no_other_row image tape answers _ (not_refused c h) =
-    sym (by_tape image tape answers (device_of image) (loads image c.good_image) ∙ roomy tape (length answers) c.whole_records c.not_above (all_pass image tape answers c) h)
+    sym (ap result_code (by_tape image tape answers (device_of image) (loads image c.good_image) ∙ roomy tape (length answers) c.whole_records c.not_above (all_pass image tape answers c) h))
 
 -- ---- every call has its row
 -- of a tape's first n records, the first that is refused
 data FirstRefused (tape : List ℕ) (n : ℕ) : Type 0 where
   nowhere : GoodBefore tape n → FirstRefused tape n
-  here : (i : ℕ) → i < n → GoodBefore tape i → {r : Refusal} → RecordRow tape i (Invalid r) → FirstRefused tape n
+  here : (i : ℕ) → i < n → GoodBefore tape i → {r : Refusal} → RecordRow tape i (Err r) → FirstRefused tape n
 
 refused_first : (tape : List ℕ) (n : ℕ) → FirstRefused tape n
 refused_first tape zero = nowhere (λ j h. absurd (omega arith))
@@ -127,16 +126,16 @@ refused_first tape (suc n) = go (refused_first tape n) (decoded tape (n * record
         by_place true e = rw (eqb-true j n e) g
         by_place false e = let u : j ≡ n → ⊥ = eqb-false j n e in f j (omega arith)
 
-    go : FirstRefused tape n → (d : Decoded) → decoded tape (n * record_bytes) ≡ d → FirstRefused tape (suc n)
+    go : FirstRefused tape n → (d : Result Event Refusal) → decoded tape (n * record_bytes) ≡ d → FirstRefused tape (suc n)
     go (here i h f r) d p = here i (omega arith) f r
-    go (nowhere f) (Valid e) p = nowhere (one_more f (meaning_is_good tape n e p))
-    go (nowhere f) (Invalid r) p = here n (omega arith) f (rw p at (record_row tape n))
+    go (nowhere f) (Ok e) p = nowhere (one_more f (meaning_is_good tape n e p))
+    go (nowhere f) (Err r) p = here n (omega arith) f (rw p at (record_row tape n))
 
 module _ (image tape : List ℕ) (room : ℕ) where
   abbrev SomeRow : Type 0
   SomeRow = (n : ℕ) × Given image tape room n
 
-  by_record : (i : ℕ) → i < records tape → ChecksReach image tape i → {r : Refusal} → RecordRow tape i (Invalid r) → SomeRow
+  by_record : (i : ℕ) → i < records tape → ChecksReach image tape i → {r : Refusal} → RecordRow tape i (Err r) → SomeRow
   by_record i h c (refuses_mark f) = (_, record_mark_wrong i h c f)
   by_record i h c (past_mark m (refuses_kind k)) = (_, kind_above_7 i h c m k)
   by_record i h c (past_mark m (refuses_operand k f)) = (_, operand_out_of_range i h c m k f)

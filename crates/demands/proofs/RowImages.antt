@@ -1,5 +1,7 @@
 -- A row of images, from the laws of a row of devices and those of one image. Assumes nothing.
+use Rattle.events.specs.declared.Refusal.{Refusal}
 use Prim.Native.Nat.{ℕ, zero, suc, ◌+◌, ◌*◌, ◌/◌, ◌%◌, ◌^◌, ◌<◌, ◌≤◌}
+use Rattle.std.specs.Prelude.{Option, Result, Ok, Err}
 use mathlib.Core.Path.{◌≡◌, refl, sym, ap, ap₂, subst, ◌∙◌}
 use mathlib.Core.Bool.{Bool, true, false, cond, ◌&&◌}
 use mathlib.Core.List.{List, [], ◌∷◌, ◌++◌, append_assoc}
@@ -14,15 +16,14 @@ use Rattle.device.specs.declared.Device.{Device}
 use Rattle.device.specs.Whole.{image_rule}
 use Rattle.step.specs.Events.{step_of}
 use Rattle.layout.specs.Layout.{image_bytes, image_of, device_of}
-use Rattle.image.specs.declared.Loaded.{Loaded}
-use Rattle.image.specs.declared.Loaded.TheVariants.{Accepted, Refused}
 use Rattle.image.specs.Image.{load_of}
 use Rattle.image.proofs.Loads.{read}
-use Rattle.checks.specs.Checks.{returned}
-use Rattle.checks.proofs.Checks.{number_low}
-use Rattle.row.specs.declared.RowAnswer.{RowAnswer}
+use Rattle.checks.specs.Checks.{bad_at, result_code}
+use Rattle.checks.proofs.Checks.{number_low, nothing_refused}
+use Rattle.row.specs.declared.Given.{Given}
+use Rattle.events.specs.declared.RefusedAt.{RefusedAt}
 use Rattle.row.specs.Rows.{row_most, row_answer, row_after}
-use Rattle.row_images.specs.RowImages.{row_of, images, row, images_of, refused_at, first_refused, row_code, told_of, row_result, row_images}
+use Rattle.row_images.specs.RowImages.{row_of, images, row, images_of, refused_at, first_refused, row_check, row_code, told_of, as_number, row_told, told_after, row_result, row_images}
 use Rattle.row_images.proofs.Checks.{let_pass, row_long}
 use Rattle.row_images.proofs.Results.{passed, by_images}
 use Rattle.demands.specs.Images.{OfBytes}
@@ -59,12 +60,12 @@ rows_back (d ∷ ds) k =
     ap₂ (λ (x : List ℕ) (y : List ℕ). device_of x ∷ row_of (length ds) y) (first_image d ds) (later_images d ds)
     ∙ ap₂ (λ (x : Device) (xs : List Device). x ∷ xs) (read_back d k.0) (rows_back ds k.1)
 
-none_refused : (k : ℕ) (ds : List Device) → EachKeepsTheRule ds → first_refused k (length ds) (images_of ds) ≡ 0
+none_refused : (k : ℕ) (ds : List Device) → EachKeepsTheRule ds → first_refused k (length ds) (images_of ds) ≡ Ok tt
 unfolding first_refused images_of
 none_refused k [] r = refl
 none_refused k (d ∷ ds) r =
     ap₂ (λ (x y : List ℕ). refused_at (load_of x) k (first_refused (k + 1) (length ds) y)) (first_image d ds) (later_images d ds)
-    ∙ ap (λ (l : Loaded). refused_at l k (first_refused (k + 1) (length ds) (images_of ds))) (load_of_save d r.0)
+    ∙ ap (λ (l : Result Device Refusal). refused_at l k (first_refused (k + 1) (length ds) (images_of ds))) (load_of_save d r.0)
     ∙ none_refused (k + 1) ds r.1
 
 pub images_of_a_row : ImagesOfARow
@@ -73,7 +74,7 @@ images_of_a_row ds ok =
     let most = ok.fits.most in
     let long = images_long ds in
     let many : images (images_of ds) ≡ length ds = omega arith in (
-      by_images (images_of ds) (omega arith) (omega arith) (omega arith) ∙ ap (λ (n : ℕ). first_refused 0 n (images_of ds)) many ∙ none_refused 0 ds ok.kept,
+      ap result_code (by_images (images_of ds) (omega arith) (omega arith) (omega arith) ∙ ap (λ (n : ℕ). first_refused 0 n (images_of ds)) many ∙ none_refused 0 ds ok.kept),
       ap (λ (n : ℕ). row_of n (images_of ds)) many ∙ rows_back ds ok.kept,
     )
 
@@ -89,14 +90,14 @@ bytes_dropped zero b f = f
 bytes_dropped (suc n) [] f = f
 bytes_dropped (suc n) (x ∷ b) f = bytes_dropped n b (λ m. f (suc m))
 
-each_keeps : (n k : ℕ) (b : List ℕ) → first_refused k n b ≡ 0 → EachKeepsTheRule (row_of n b)
+each_keeps : (n k : ℕ) (b : List ℕ) → first_refused k n b ≡ Ok tt → EachKeepsTheRule (row_of n b)
 unfolding row_of first_refused
 each_keeps zero k b e = tt
 each_keeps (suc n) k b e =
     let f = let_pass (take image_bytes b) k (first_refused (k + 1) n (drop image_bytes b)) e in
     (f.ruled, each_keeps n (k + 1) (drop image_bytes b) f.clear)
 
-same_bytes : (n k : ℕ) (b : List ℕ) → OfBytes b → first_refused k n b ≡ 0 → images_of (row_of n b) ≡ take (n * image_bytes) b
+same_bytes : (n k : ℕ) (b : List ℕ) → OfBytes b → first_refused k n b ≡ Ok tt → images_of (row_of n b) ≡ take (n * image_bytes) b
 unfolding row_of images_of first_refused
 same_bytes zero k b f e = refl
 same_bytes (suc n) k b f e =
@@ -109,7 +110,7 @@ same_bytes (suc n) k b f e =
 
 pub row_of_images : RowOfImages
 row_of_images b f e =
-    let p = passed b e in
+    let p = passed b (nothing_refused _ e) in
     let some = p.some in
     let short = p.short in
     let even = p.even in
@@ -121,41 +122,46 @@ row_of_images b f e =
     }
 
 -- ---- the number returned
--- the code of n images from index k on, and any code: it takes less than 32 bits
-code_below : (n k : ℕ) (b : List ℕ) → first_refused k n b < 256 * (k + n) + 256
+-- the refused image is one of the row's, so a code takes less than 32 bits
+index_below : (n k : ℕ) (b : List ℕ) (r : RefusedAt) → first_refused k n b ≡ Err r → r.index < k + n
 unfolding first_refused
-code_below zero k b = omega arith
-code_below (suc n) k b = go (load_of (take image_bytes b)) (code_below n (k + 1) (drop image_bytes b))
+index_below zero k b r e = absurd (cc)
+index_below (suc n) k b r e = go (load_of (take image_bytes b)) e (index_below n (k + 1) (drop image_bytes b) r)
   where
-    go : (l : Loaded) → first_refused (k + 1) n (drop image_bytes b) < 256 * (k + 1 + n) + 256 → refused_at l k (first_refused (k + 1) n (drop image_bytes b)) < 256 * (k + suc n) + 256
-    go (Accepted d) h = omega arith
-    go (Refused r) h = omega (arith, number_low r)
+    go : (l : Result Device Refusal) → refused_at l k (first_refused (k + 1) n (drop image_bytes b)) ≡ Err r → (first_refused (k + 1) n (drop image_bytes b) ≡ Err r → r.index < k + 1 + n) → r.index < k + suc n
+    go (Ok d) q h = let l = h q in omega arith
+    go (Err x) q h = let y : record { refusal = x; index = k } ≡ r = cc in let i : k ≡ r.index = ap (λ (z : RefusedAt). z.index) y in omega arith
 
 code_small : (b : List ℕ) → row_code b < 2 ^ 32
-unfolding row_code
+unfolding row_check
 code_small b = go (ltb 0 (length b)) (leb (length b) (row_most * image_bytes)) (eqb (length b % image_bytes) 0) refl
   where
-    below : length b ≤ row_most * image_bytes → first_refused 0 (images b) b < 256 * (0 + images b) + 256 → first_refused 0 (images b) b < 2 ^ 32
-    below h c = omega arith
+    below : length b ≤ row_most * image_bytes → (c : Result (Unit {0}) RefusedAt) → first_refused 0 (images b) b ≡ c → result_code c < 2 ^ 32
+    below h (Ok u) e = omega arith
+    below h (Err r) e = let i = index_below (images b) 0 b r e in omega (arith, number_low r.refusal)
 
-    go : (x y z : Bool) → leb (length b) (row_most * image_bytes) ≡ y → cond (x && y) (cond z (first_refused 0 (images b) b) (returned ImageLength 0)) (returned RowLength 0) < 2 ^ 32
-    go true true true q = below (leb-true _ _ q) (code_below (images b) 0 b)
+    go : (x y z : Bool) → leb (length b) (row_most * image_bytes) ≡ y → result_code (cond (x && y) (cond z (first_refused 0 (images b) b) (bad_at ImageLength 0)) (bad_at RowLength 0)) < 2 ^ 32
+    go true true true q = below (leb-true _ _ q) (first_refused 0 (images b) b) refl
     go true true false q = omega arith
     go true false z q = omega arith
     go false y z q = omega arith
 
 module _ (b : List ℕ) where
   told_is : row_code b ≡ 0 → row_result b ≡ told_of (images b) (row_answer (row b)) * 2 ^ 32
-  unfolding row_result
-  told_is e = rw (eq-eqb _ _ e) refl
+  unfolding row_told
+  told_is e = rw (nothing_refused (row_check b) e) refl
 
   left_is : row_code b ≡ 0 → row_images b ≡ images_of (row_after (row b))
   unfolding row_images
   left_is e = rw (eq-eqb _ _ e) refl
 
   code_is : (row_code b ≡ 0 → ⊥) → row_result b ≡ row_code b
-  unfolding row_result
-  code_is h = rw (ne_eqb _ _ h) refl
+  unfolding row_told
+  code_is h = go (row_check b) h
+    where
+      go : (c : Result (Unit {0}) RefusedAt) → (result_code c ≡ 0 → ⊥) → as_number (told_after c (told_of (images b) (row_answer (row b)))) ≡ result_code c
+      go (Ok u) n = absurd (n refl)
+      go (Err r) n = refl
 
   stays : (row_code b ≡ 0 → ⊥) → row_images b ≡ b
   unfolding row_images
@@ -188,14 +194,14 @@ one_image_is_written b above d below f e is q asks =
       value = g.value;
       before = sym r.same ∙ ap images_of is ∙ in_the_middle above d below;
       after = left_is b e ∙ ap (λ (l : List Device). images_of (row_after l)) is ∙ ap images_of g.leaves ∙ in_the_middle above (step_of d (Acknowledge true)).device below;
-      tells = told_is b e ∙ ap (λ (a : RowAnswer). told_of (images b) a * 2 ^ 32) (ap row_answer is ∙ g.answers);
+      tells = told_is b e ∙ ap (λ (a : Result (Option Given) RefusedAt). told_of (images b) a * 2 ^ 32) (ap row_answer is ∙ g.answers);
     }
 
 pub no_image_is_written : NoImageIsWritten
 no_image_is_written b f e q =
     let r = row_of_images b f e in
     let g = none_requests_all_pass (row b) r.accepted q in
-    (left_is b e ∙ ap images_of g.2 ∙ r.same, told_is b e ∙ ap (λ (a : RowAnswer). told_of (images b) a * 2 ^ 32) g.1)
+    (left_is b e ∙ ap images_of g.2 ∙ r.same, told_is b e ∙ ap (λ (a : Result (Option Given) RefusedAt). told_of (images b) a * 2 ^ 32) g.1)
 
 pub code_and_told : CodeAndTold
 code_and_told b = record { low = low (eqb (row_code b) 0) refl; high = λ e. high (told_is b e); refused = λ h. over (code_is b h) }

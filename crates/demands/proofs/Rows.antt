@@ -1,5 +1,8 @@
 -- A row of devices, acknowledged together: from the laws of one acknowledge. Assumes nothing.
+use Rattle.channels.specs.declared.Channel.{Channel}
+use Rattle.std.proofs.Common.{Option, Some, None}
 use Prim.Native.Nat.{ℕ, zero, suc, ◌+◌, ◌<◌, ◌≤◌}
+use Rattle.std.specs.Prelude.{Option, Some, None, Result, Ok, Err}
 use mathlib.Core.Path.{◌≡◌, refl, sym, ap, subst, ◌∙◌}
 use mathlib.Core.Bool.{Bool, true, false, cond, not, false≢true}
 use mathlib.Core.List.{List, [], ◌∷◌, ◌++◌, map}
@@ -8,30 +11,27 @@ use lib.Dec.{ltb, leb}
 use lib.ListN.{length, take}
 use borrow.Author.Tests.{lt-ltb, le-ltb, le-leb, ltb-true, leb-true}
 use Rattle.bits.proofs.Bits.{halves, joined}
-use Rattle.requests.specs.declared.Requesting.{Requesting}
-use Rattle.requests.specs.declared.Requesting.TheVariants.{By, Nobody}
 use Rattle.requests.specs.Requests.{requests, some_requests, irq, highest, acknowledged_by, acknowledged}
 use Rattle.requests.proofs.Requests.{found, irq_found}
 use Rattle.timeouts.specs.Clocks.{none}
 use Rattle.events.specs.declared.Event.TheVariants.{Acknowledge}
 use Rattle.events.specs.declared.Answer.{Answer}
 use Rattle.events.specs.declared.Answer.TheVariants.{Done, Data, Vector, PassedOn, Held}
-use Rattle.events.specs.declared.Refusal.{Refusal}
 use Rattle.events.specs.declared.Refusal.TheVariants.{ImageRule, RowLength}
+use Rattle.events.specs.declared.RefusedAt.{RefusedAt}
 use Rattle.device.specs.declared.Device.{Device}
 use Rattle.device.specs.declared.Stepped.{Stepped}
 use Rattle.device.specs.Whole.{irq_of, image_rule, with_interrupts}
 use Rattle.step.specs.Events.{step_of, effect_of, replied}
-use Rattle.row.specs.declared.RowAnswer.{RowAnswer}
-use Rattle.row.specs.declared.RowAnswer.TheVariants.{Given, AllPassed, Refused}
+use Rattle.row.specs.declared.Given.{Given}
 use Rattle.row.specs.Rows.{ieo, acknowledged_from, acknowledged_row, devices_of, given_or, given_from, row_most, fitting, all_keep, first_broken, row_answer, row_after}
-use Rattle.demands.specs.Rows.{NoneRequests, EachKeepsTheRule, OneToEight, AcceptedRow, passed_on, held, FirstThatRequestsGives, NoneRequestsAllPass, ServiceAloneHoldsNothingBack, IeoIsNotIrq, up_to, NoDeviceDependsOnThoseAfterIt, RowOfOne, RowKeepsLength, RowKeepsRule, AcceptedRowStaysAccepted, LengthIsCheckedFirst, ThenTheFirstBroken, RefusedRowUnchanged, AcceptedRowIsNotRefused}
+use Rattle.demands.specs.Rows.{NoneRequests, EachKeepsTheRule, OneToEight, AcceptedRow, passed_on, held, FirstThatRequestsGives, NoneRequestsAllPass, ServiceAloneHoldsNothingBack, IeoIsNotIrq, given_up_to, up_to, NoDeviceDependsOnThoseAfterIt, RowOfOne, RowKeepsLength, RowKeepsRule, AcceptedRowStaysAccepted, LengthIsCheckedFirst, ThenTheFirstBroken, RefusedRowUnchanged, AcceptedRowIsNotRefused}
 use Rattle.demands.proofs.Acknowledges.{gives_vector, request_is_served}
 use Rattle.demands.proofs.Rule.{every_event_keeps_the_rule}
 
 -- ---- one device
 -- what an acknowledge with IEI asserted comes to, of who requests
-abbrev whoever : Device → Requesting → Stepped
+abbrev whoever : Device → Option Channel → Stepped
 whoever d r = record { device = with_interrupts (acknowledged_by r d.interrupts).interrupts d; answer = replied (acknowledged_by r d.interrupts).reply; timeouts = none }
 
 -- without a request it passes on, unchanged
@@ -39,9 +39,9 @@ passes : (d : Device) → irq_of d ≡ false → step_of d (Acknowledge true) �
 unfolding effect_of acknowledged
 passes d q = go (highest d.interrupts) (irq_found d.interrupts ∙ q)
   where
-    go : (r : Requesting) → found r ≡ false → whoever d r ≡ passed_on d
-    go (By c) e = absurd (false≢true (sym e))
-    go Nobody e = refl
+    go : (r : Option Channel) → found r ≡ false → whoever d r ≡ passed_on d
+    go (Some c) e = absurd (false≢true (sym e))
+    go None e = refl
 
 ieo_of : (d : Device) (b : Bool) → irq_of d ≡ b → ieo (step_of d (Acknowledge true)).answer ≡ not b
 ieo_of d true q = ap ieo (request_is_served d q).answers
@@ -95,7 +95,7 @@ fits_fitting : (ds : List Device) → OneToEight ds → fitting (length ds) ≡ 
 fits_fitting ds f = joined (ltb 0 (length ds)) (leb (length ds) row_most) (lt-ltb 0 (length ds) f.some) (le-leb (length ds) row_most f.most)
 
 module _ (ds : List Device) (ok : AcceptedRow ds) where
-  answer_is : row_answer ds ≡ given_from 0 (acknowledged_row ds)
+  answer_is : row_answer ds ≡ Ok (given_from 0 (acknowledged_row ds))
   unfolding row_answer
   answer_is = rw (fits_fitting ds ok.fits, kept_by_all ds ok.kept) refl
 
@@ -118,7 +118,7 @@ none_requests_all_pass ds ok q = (classes, answers, leaves)
     classes : acknowledged_row ds ≡ map passed_on ds
     classes = ap acknowledged_row (sym (nil_right ds)) ∙ all_pass ds [] q ∙ map_nil ds
 
-    none_given : (k : ℕ) (l : List Device) → given_from k (map passed_on l) ≡ AllPassed
+    none_given : (k : ℕ) (l : List Device) → given_from k (map passed_on l) ≡ None
     none_given k [] = refl
     none_given k (d ∷ l) = none_given (k + 1) l
 
@@ -126,8 +126,8 @@ none_requests_all_pass ds ok q = (classes, answers, leaves)
     same [] = refl
     same (d ∷ l) = ap (λ (m : List Device). d ∷ m) (same l)
 
-    answers : row_answer ds ≡ AllPassed
-    answers = answer_is ds ok ∙ ap (given_from 0) classes ∙ none_given 0 ds
+    answers : row_answer ds ≡ Ok None
+    answers = answer_is ds ok ∙ ap Ok (ap (given_from 0) classes ∙ none_given 0 ds)
 
     leaves : row_after ds ≡ ds
     leaves = after_is ds ok ∙ ap devices_of classes ∙ same ds
@@ -140,10 +140,7 @@ first_that_requests_gives above d below ok q asks = record {
   classes = classes;
   answers =
       answer_is (above ++ (d ∷ below)) ok
-      ∙ ap (given_from 0) classes
-      ∙ passed_give_nothing 0 above (k ∷ map held below)
-      ∙ given_here (0 + length above)
-      ∙ ap (λ (m : ℕ). Given m v) (omega arith);
+      ∙ ap Ok (ap (given_from 0) classes ∙ passed_give_nothing 0 above (k ∷ map held below) ∙ given_here (0 + length above) ∙ ap (λ (m : ℕ). Some (record { index = m; vector = v })) (omega arith));
   leaves =
       after_is (above ++ (d ∷ below)) ok
       ∙ ap devices_of classes
@@ -163,7 +160,7 @@ first_that_requests_gives above d below ok q asks = record {
     classes : acknowledged_row (above ++ (d ∷ below)) ≡ map passed_on above ++ (k ∷ map held below)
     classes = all_pass above (d ∷ below) q ∙ ap (λ (l : List Stepped). map passed_on above ++ l) (head_gives d below v gives)
 
-    given_here : (m : ℕ) → given_from m (k ∷ map held below) ≡ Given m v
+    given_here : (m : ℕ) → given_from m (k ∷ map held below) ≡ Some (record { index = m; vector = v })
     given_here m = ap (λ (a : Answer). given_or a m (given_from (m + 1) (map held below))) gives
 
 -- ---- in service alone
@@ -195,28 +192,28 @@ take_devices (suc n) [] = refl
 take_devices (suc n) (s ∷ ss) = ap (λ (l : List Device). s.device ∷ l) (take_devices n ss)
 
 -- those from the k-th on give nothing before it
-none_before : (m k : ℕ) (ss : List Stepped) → m ≤ k → up_to m (given_from k ss) ≡ AllPassed
+none_before : (m k : ℕ) (ss : List Stepped) → m ≤ k → given_up_to m (given_from k ss) ≡ None
 unfolding given_from
 none_before m k [] l = refl
 none_before m k (s ∷ ss) l = go s.answer (none_before m (k + 1) ss (omega arith))
   where
-    go : (a : Answer) → up_to m (given_from (k + 1) ss) ≡ AllPassed → up_to m (given_or a k (given_from (k + 1) ss)) ≡ AllPassed
+    go : (a : Answer) → given_up_to m (given_from (k + 1) ss) ≡ None → given_up_to m (given_or a k (given_from (k + 1) ss)) ≡ None
     go Done e = e
     go (Data v) e = e
-    go (Vector v) e = ap (λ (t : Bool). cond t (Given k v) AllPassed) (le-ltb k m l)
+    go (Vector v) e = ap (λ (t : Bool). cond t (Some (record { index = k; vector = v })) None) (le-ltb k m l)
     go PassedOn e = e
     go Held e = e
 
-take_given : (n k : ℕ) (ss : List Stepped) → up_to (k + n) (given_from k ss) ≡ given_from k (take n ss)
+take_given : (n k : ℕ) (ss : List Stepped) → given_up_to (k + n) (given_from k ss) ≡ given_from k (take n ss)
 unfolding given_from
 take_given zero k ss = none_before (k + 0) k ss (omega arith)
 take_given (suc n) k [] = refl
-take_given (suc n) k (s ∷ ss) = go s.answer (ap (λ (m : ℕ). up_to m (given_from (k + 1) ss)) (omega arith) ∙ take_given n (k + 1) ss)
+take_given (suc n) k (s ∷ ss) = go s.answer (ap (λ (m : ℕ). given_up_to m (given_from (k + 1) ss)) (omega arith) ∙ take_given n (k + 1) ss)
   where
-    go : (a : Answer) → up_to (k + suc n) (given_from (k + 1) ss) ≡ given_from (k + 1) (take n ss) → up_to (k + suc n) (given_or a k (given_from (k + 1) ss)) ≡ given_or a k (given_from (k + 1) (take n ss))
+    go : (a : Answer) → given_up_to (k + suc n) (given_from (k + 1) ss) ≡ given_from (k + 1) (take n ss) → given_up_to (k + suc n) (given_or a k (given_from (k + 1) ss)) ≡ given_or a k (given_from (k + 1) (take n ss))
     go Done e = e
     go (Data v) e = e
-    go (Vector v) e = ap (λ (t : Bool). cond t (Given k v) AllPassed) (lt-ltb k (k + suc n) (omega arith))
+    go (Vector v) e = ap (λ (t : Bool). cond t (Some (record { index = k; vector = v })) None) (lt-ltb k (k + suc n) (omega arith))
     go PassedOn e = e
     go Held e = e
 
@@ -225,33 +222,25 @@ module _ (n : ℕ) (ds : List Device) (ok : AcceptedRow ds) where
   leaves_of : take n (row_after ds) ≡ devices_of (acknowledged_row (take n ds))
   leaves_of = ap (take n) (after_is ds ok) ∙ take_devices n (acknowledged_row ds) ∙ ap devices_of (take_classes n true ds)
 
-  answers_taken : up_to n (row_answer ds) ≡ given_from 0 (acknowledged_row (take n ds))
+  answers_taken : up_to n (row_answer ds) ≡ Ok (given_from 0 (acknowledged_row (take n ds)))
   answers_taken =
       ap (up_to n) (answer_is ds ok)
-      ∙ ap (λ (m : ℕ). up_to m (given_from 0 (acknowledged_row ds))) (omega arith)
-      ∙ take_given n 0 (acknowledged_row ds)
-      ∙ ap (given_from 0) (take_classes n true ds)
+      ∙ ap Ok (ap (λ (m : ℕ). given_up_to m (given_from 0 (acknowledged_row ds))) (omega arith) ∙ take_given n 0 (acknowledged_row ds) ∙ ap (given_from 0) (take_classes n true ds))
 
 pub no_device_depends_on_those_after_it : NoDeviceDependsOnThoseAfterIt
 no_device_depends_on_those_after_it n ds es okd oke same = record {
   classes = take_classes n true ds ∙ ap acknowledged_row same ∙ sym (take_classes n true es);
   leaves = leaves_of n ds okd ∙ ap (λ (l : List Device). devices_of (acknowledged_row l)) same ∙ sym (leaves_of n es oke);
-  answers = answers_taken n ds okd ∙ ap (λ (l : List Device). given_from 0 (acknowledged_row l)) same ∙ sym (answers_taken n es oke);
+  answers = answers_taken n ds okd ∙ ap (λ (l : List Device). Ok (given_from 0 (acknowledged_row l))) same ∙ sym (answers_taken n es oke);
 }
 
 -- ---- a row of one
 pub row_of_one : RowOfOne
 unfolding acknowledged_from given_from
-row_of_one d r = (answer_is (d ∷ []) ok ∙ given, after_is (d ∷ []) ok ∙ after)
+row_of_one d r = (answer_is (d ∷ []) ok, after_is (d ∷ []) ok)
   where
     ok : AcceptedRow (d ∷ [])
     ok = record { fits = record { some = omega arith; most = omega arith }; kept = (r, tt) }
-
-    given : given_from 0 (acknowledged_row (d ∷ [])) ≡ given_or (step_of d (Acknowledge true)).answer 0 AllPassed
-    given = refl
-
-    after : devices_of (acknowledged_row (d ∷ [])) ≡ (step_of d (Acknowledge true)).device ∷ []
-    after = refl
 
 -- ---- whatever the row
 -- what holds of the row as it came and of the row acknowledged holds of what the call leaves
@@ -290,11 +279,17 @@ accepted_row_stays_accepted ds ok = record {
     same = sym (row_keeps_length ds)
 
 -- ---- refusals
+abbrev broken : List Device → Result (Option Given) RefusedAt
+broken ds = Err (record { refusal = ImageRule; index = first_broken ds })
+
+abbrev row_length : Result (Option Given) RefusedAt
+row_length = Err (record { refusal = RowLength; index = 0 })
+
 pub length_is_checked_first : LengthIsCheckedFirst
 unfolding row_answer
 length_is_checked_first ds h = go (fitting (length ds)) refl
   where
-    go : (f : Bool) → fitting (length ds) ≡ f → cond f (cond (all_keep ds) (given_from 0 (acknowledged_row ds)) (Refused ImageRule (first_broken ds))) (Refused RowLength 0) ≡ Refused RowLength 0
+    go : (f : Bool) → fitting (length ds) ≡ f → cond f (cond (all_keep ds) (Ok (given_from 0 (acknowledged_row ds))) (broken ds)) row_length ≡ row_length
     go true e =
         let b = halves (ltb 0 (length ds)) (leb (length ds) row_most) e in
         absurd (h (record { some = ltb-true 0 (length ds) b.0; most = leb-true (length ds) row_most b.1 }))
@@ -316,35 +311,14 @@ pub then_the_first_broken : ThenTheFirstBroken
 unfolding row_answer
 then_the_first_broken above d below fits k breaks = rw (fits_fitting (above ++ (d ∷ below)) fits, not_all d below breaks above k, stands_at d below breaks above k) refl
 
--- an acknowledge gives no refusal
-abbrev is_refused : RowAnswer → Bool
-is_refused (Given k v) = false
-is_refused AllPassed = false
-is_refused (Refused r k) = true
-
-given_is_no_refusal : (k : ℕ) (ss : List Stepped) → is_refused (given_from k ss) ≡ false
-unfolding given_from
-given_is_no_refusal k [] = refl
-given_is_no_refusal k (s ∷ ss) = go s.answer (given_is_no_refusal (k + 1) ss)
-  where
-    go : (a : Answer) → is_refused (given_from (k + 1) ss) ≡ false → is_refused (given_or a k (given_from (k + 1) ss)) ≡ false
-    go Done e = e
-    go (Data v) e = e
-    go (Vector v) e = refl
-    go PassedOn e = e
-    go Held e = e
-
-given_refuses_nothing : (ds : List Device) (r : Refusal) (k : ℕ) → given_from 0 (acknowledged_row ds) ≡ Refused r k → ⊥
-given_refuses_nothing ds r k e = false≢true (sym (given_is_no_refusal 0 (acknowledged_row ds)) ∙ ap is_refused e)
-
 pub refused_row_unchanged : RefusedRowUnchanged
 unfolding row_answer row_after
-refused_row_unchanged ds r k = go (fitting (length ds)) (all_keep ds)
+refused_row_unchanged ds r = go (fitting (length ds)) (all_keep ds)
   where
-    go : (f a : Bool) → cond f (cond a (given_from 0 (acknowledged_row ds)) (Refused ImageRule (first_broken ds))) (Refused RowLength 0) ≡ Refused r k → cond f (cond a (devices_of (acknowledged_row ds)) ds) ds ≡ ds
-    go true true e = absurd (given_refuses_nothing ds r k e)
+    go : (f a : Bool) → cond f (cond a (Ok (given_from 0 (acknowledged_row ds))) (broken ds)) row_length ≡ Err r → cond f (cond a (devices_of (acknowledged_row ds)) ds) ds ≡ ds
+    go true true e = absurd (cc)
     go true false e = refl
     go false a e = refl
 
 pub accepted_row_is_not_refused : AcceptedRowIsNotRefused
-accepted_row_is_not_refused ds r k ok e = given_refuses_nothing ds r k (sym (answer_is ds ok) ∙ e)
+accepted_row_is_not_refused ds r ok e = let a = answer_is ds ok in cc

@@ -1,4 +1,6 @@
 -- Tapes by their records: records that agree, the events of a tape in parts, records replaced by others. Assumes nothing.
+use Rattle.std.specs.Prelude.{Result, Ok, Err}
+use Rattle.events.specs.declared.Refusal.{Refusal}
 use Prim.Native.Nat.{ℕ, zero, suc, ◌+◌, ◌-◌, ◌*◌, ◌≤◌, ◌<◌}
 use mathlib.Core.Path.{◌≡◌, refl, sym, ap, ap₂, ◌∙◌}
 use mathlib.Core.Bool.{Bool, true, false}
@@ -11,8 +13,6 @@ use lib.Seq.{length-take-le, get_or-append-add, get_or-take, get_or-drop}
 use borrow.Author.Tests.{eqb-true, eqb-false, ltb-true, ltb-false}
 use Rattle.events.specs.declared.Event.{Event}
 use Rattle.bits.specs.Bytes.{byte}
-use Rattle.record.specs.declared.Decoded.{Decoded}
-use Rattle.record.specs.declared.Decoded.TheVariants.{Valid, Invalid}
 use Rattle.record.specs.Records.{record_bytes}
 use Rattle.tape.specs.Tapes.{decoded, events_at, events}
 use Rattle.demands.specs.Tapes.{replaced}
@@ -69,9 +69,9 @@ unfolding events
 events_join t zero m i = ap₂ (events t) (sym (add-zero i)) (zero-add m)
 events_join t (suc k) m i = ap (events t i) (suc-add k m) ∙ go (decoded t (i * record_bytes)) (events_join t k m (i + 1) ∙ ap (λ (n : ℕ). events t (i + 1) k ++ events t n m) (omega arith))
   where
-    go : (d : Decoded) → events t (i + 1) (k + m) ≡ events t (i + 1) k ++ events t (i + suc k) m → events_at d (events t (i + 1) (k + m)) ≡ events_at d (events t (i + 1) k) ++ events t (i + suc k) m
-    go (Valid e) p = ap (λ (es : List Event). e ∷ es) p
-    go (Invalid r) p = p
+    go : (d : Result Event Refusal) → events t (i + 1) (k + m) ≡ events t (i + 1) k ++ events t (i + suc k) m → events_at d (events t (i + 1) (k + m)) ≡ events_at d (events t (i + 1) k) ++ events t (i + suc k) m
+    go (Ok e) p = ap (λ (es : List Event). e ∷ es) p
+    go (Err r) p = p
 
 -- ---- c records in place of those from the i-th on and below the k-th
 module _ (i k c : ℕ) (new tape : List ℕ) (h : i ≤ k) (l : k * record_bytes ≤ length tape) (e : length new ≡ c * record_bytes) where

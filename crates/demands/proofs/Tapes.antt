@@ -1,4 +1,5 @@
 -- Joining and cutting on any accepted tape: the tapes joined and cut are such a pair as proofs/Spans.antt speaks of. Assumes nothing.
+use Rattle.std.specs.Prelude.{Ok}
 use Prim.Native.Nat.{ℕ, zero, suc, ◌+◌, ◌*◌, ◌≤◌, ◌<◌}
 use mathlib.Core.Path.{◌≡◌, refl, sym, ap, ◌∙◌}
 use mathlib.Core.List.{List, [], ◌++◌}
@@ -8,7 +9,6 @@ use lib.Dec.{lit<}
 use lib.ListN.{length, length-append}
 use Rattle.events.specs.declared.Event.TheVariants.{Clocks}
 use Rattle.bits.specs.Bytes.{byte}
-use Rattle.record.specs.declared.Decoded.TheVariants.{Valid}
 use Rattle.record.specs.Records.{record_bytes, event_of, meant}
 use Rattle.tape.specs.Tapes.{decoded, records}
 use Rattle.demands.specs.Refusals.{RecordMeans}
@@ -77,4 +77,4 @@ clock_record_bytes n (suc (suc (suc (suc (suc (suc (suc (suc k)))))))) = lit< tt
 
 pub recorded : Recorded
 unfolding decoded meant event_of
-recorded n h = (record { long = refl; means = ap (λ (k : ℕ). Valid (Clocks k)) (number_of_four n [] h) }, clock_record_bytes n)
+recorded n h = (record { long = refl; means = ap (λ (k : ℕ). Ok (Clocks k)) (number_of_four n [] h) }, clock_record_bytes n)

@@ -1,9 +1,8 @@
 -- What is accepted: the image that an answered call leaves, a fresh device's, and a tape of no records. Proved in proofs/Accepted.antt.
-use Rattle.std.specs.Prelude.{ℕ, ◌≡◌, true, List, [], ◌∷◌}
+use Rattle.std.specs.Prelude.{ℕ, ◌≡◌, true, List, [], ◌∷◌, Ok}
 use Rattle.device.specs.declared.Device.{Device}
 use Rattle.events.specs.declared.Event.{Event}
 use Rattle.device.specs.Whole.{fresh_device, image_rule}
-use Rattle.image.specs.declared.Loaded.TheVariants.{Accepted}
 use Rattle.layout.specs.Layout.{image_of, device_of}
 use Rattle.image.specs.Image.{load_of}
 use Rattle.tape.specs.Tapes.{events_of}
@@ -27,12 +26,12 @@ ARunKeepsTheRule = (d : Device) (es : List Event) → AllBytes es → image_rule
 
 -- the image at exit loads as the very device that the run left
 abbrev pub AnAnsweredCallLeavesAnAcceptedImage : Type 0
-AnAnsweredCallLeavesAnAcceptedImage = (image tape answers : List ℕ) → result_of image tape answers ≡ 0 → load_of (image_after image tape answers) ≡ Accepted (run_of (device_of image) (events_of tape))
+AnAnsweredCallLeavesAnAcceptedImage = (image tape answers : List ℕ) → result_of image tape answers ≡ 0 → load_of (image_after image tape answers) ≡ Ok (run_of (device_of image) (events_of tape))
 
 -- ---- the least image and the least tape
 -- "A fresh device is all zero."
 abbrev pub FreshAccepted : Type 0
-FreshAccepted = GoodImage (image_of fresh_device) × (load_of (image_of fresh_device) ≡ Accepted fresh_device) × (image_rule fresh_device ≡ true)
+FreshAccepted = GoodImage (image_of fresh_device) × (load_of (image_of fresh_device) ≡ Ok fresh_device) × (image_rule fresh_device ≡ true)
 
 -- "A tape of 0 bytes is accepted.": it alters nothing
 abbrev pub EmptyTapeAnswered : Type 0

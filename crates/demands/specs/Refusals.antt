@@ -1,18 +1,15 @@
 -- Demand 1: "Every image, tape of events and answer buffer, good or broken, gets either its answer or one of nine numbered refusals, given under the conditions in document 01 and no others [..] A refused call leaves the lent image and answer buffer as they came."
 -- `Given` is the table of document 01, a row a constructor. Every call has its row (`EachCallHasItsRow`) and no other (`NoOtherRow`). Proved in proofs/Refusals.antt, `ByteRuleIsRecordRule` in proofs/ByteRule.antt, `GoodRecordHasEvent` in proofs/Records.antt.
-use Rattle.std.specs.Prelude.{ℕ, ◌+◌, ◌*◌, ◌/◌, ◌%◌, ◌≤◌, ◌<◌, ◌≡◌, true, List, ◌++◌, ◌⊎◌, ◌↔◌, length, drop}
+use Rattle.std.specs.Prelude.{ℕ, ◌+◌, ◌*◌, ◌/◌, ◌%◌, ◌≤◌, ◌<◌, ◌≡◌, true, List, ◌++◌, ◌⊎◌, ◌↔◌, length, drop, None, Ok, Err}
 use Rattle.std.specs.Int.Bits.{bit_and}
 use Rattle.timer.specs.Timers.{divisor}
 use Rattle.events.specs.declared.Event.{Event}
 use Rattle.events.specs.declared.Refusal.TheVariants.{TapeLength}
 use Rattle.device.specs.Whole.{image_rule}
-use Rattle.image.specs.declared.Loaded.TheVariants.{Accepted}
 use Rattle.layout.specs.Layout.{image_bytes, image_of, device_of}
 use Rattle.image.specs.Image.{unused_zero, load_of}
 use Rattle.bits.specs.Bytes.{byte, number}
-use Rattle.record.specs.declared.Decoded.TheVariants.{Valid}
 use Rattle.record.specs.Records.{record_bytes}
-use Rattle.tape.specs.declared.Found.TheVariants.{Refused, PastEnd}
 use Rattle.tape.specs.Tapes.{tape_most, records, decoded, events_of, record_at}
 use Rattle.answer.specs.Answers.{answer_bytes}
 use Rattle.run.specs.Runs.{run_of, answers_of, result_of, image_after, answers_after}
@@ -168,11 +165,11 @@ ByteRuleIsRecordRule = (image : List ℕ) → ImageRuled image ↔ ((unused_zero
 
 -- a good image is one that loads, as the device of its bytes
 abbrev pub GoodImageLoads : Type 0
-GoodImageLoads = (image : List ℕ) → GoodImage image ↔ (load_of image ≡ Accepted (device_of image))
+GoodImageLoads = (image : List ℕ) → GoodImage image ↔ (load_of image ≡ Ok (device_of image))
 
 -- the record of index i means this event
 abbrev pub RecordMeans : List ℕ → ℕ → Event → Type 0
-RecordMeans tape i e = decoded tape (i * record_bytes) ≡ Valid e
+RecordMeans tape i e = decoded tape (i * record_bytes) ≡ Ok e
 
 -- a good record is one that has an event
 pub record HasEvent (tape : List ℕ) (i : ℕ) : Type 0 where
@@ -188,8 +185,8 @@ WholeTape tape = (length tape % record_bytes ≡ 0) × (length tape ≤ tape_mos
 
 -- 4 exactly if "tape length not a multiple of 8, or above 4,096"; proved in proofs/Found.antt
 abbrev pub FoundRefusesLength : Type 0
-FoundRefusesLength = (tape : List ℕ) (i : ℕ) → (record_at tape i ≡ Refused TapeLength) ↔ (WholeTape tape → ⊥)
+FoundRefusesLength = (tape : List ℕ) (i : ℕ) → (record_at tape i ≡ Err TapeLength) ↔ (WholeTape tape → ⊥)
 
 -- past the end exactly if an accepted length has no such record
 abbrev pub FoundPastEnd : Type 0
-FoundPastEnd = (tape : List ℕ) (i : ℕ) → (record_at tape i ≡ PastEnd) ↔ (WholeTape tape × (records tape ≤ i))
+FoundPastEnd = (tape : List ℕ) (i : ℕ) → (record_at tape i ≡ Ok None) ↔ (WholeTape tape × (records tape ≤ i))

@@ -1,17 +1,16 @@
 -- Document 02, 1/13: "an acknowledge over a row of one to eight devices lent together", sentence by sentence, of the rules in crate row. Proved in proofs/Rows.antt.
-use Rattle.std.specs.Prelude.{ℕ, ◌%◌, ◌<◌, ◌≤◌, ◌≡◌, true, false, cond, not, ◌&&◌, List, [], ◌∷◌, ◌++◌, map, ltb, length, take}
+use Rattle.std.specs.Prelude.{ℕ, ◌%◌, ◌<◌, ◌≤◌, ◌≡◌, true, false, cond, not, ◌&&◌, List, [], ◌∷◌, ◌++◌, Option, Some, None, Result, Ok, Err, map, ltb, length, take}
 use Rattle.channels.specs.Channels.{has}
 use Rattle.timeouts.specs.Clocks.{none}
 use Rattle.events.specs.declared.Event.TheVariants.{Acknowledge}
 use Rattle.events.specs.declared.Answer.TheVariants.{PassedOn, Held}
-use Rattle.events.specs.declared.Refusal.{Refusal}
 use Rattle.events.specs.declared.Refusal.TheVariants.{ImageRule, RowLength}
+use Rattle.events.specs.declared.RefusedAt.{RefusedAt}
 use Rattle.device.specs.declared.Device.{Device}
 use Rattle.device.specs.declared.Stepped.{Stepped}
 use Rattle.device.specs.Whole.{irq_of, image_rule}
 use Rattle.step.specs.Events.{step_of}
-use Rattle.row.specs.declared.RowAnswer.{RowAnswer}
-use Rattle.row.specs.declared.RowAnswer.TheVariants.{Given, AllPassed, Refused}
+use Rattle.row.specs.declared.Given.{Given}
 use Rattle.row.specs.Rows.{ieo, acknowledged_row, given_or, row_answer, row_after}
 use Rattle.demands.specs.Acknowledges.{Gave}
 
@@ -49,7 +48,7 @@ pub record RowGave (above : List Device) (d : Device) (below : List Device) : Ty
   -- each device's class and state
   pub classes : acknowledged_row (above ++ (d ∷ below)) ≡ map passed_on above ++ (step_of d (Acknowledge true) ∷ map held below)
   -- what the call answers and leaves
-  pub answers : row_answer (above ++ (d ∷ below)) ≡ Given (length above) value
+  pub answers : row_answer (above ++ (d ∷ below)) ≡ Ok (Some (record { index = length above; vector = value }))
   pub leaves : row_after (above ++ (d ∷ below)) ≡ above ++ ((step_of d (Acknowledge true)).device ∷ below)
 
 abbrev pub FirstThatRequestsGives : Type 0
@@ -57,7 +56,7 @@ FirstThatRequestsGives = (above : List Device) (d : Device) (below : List Device
 
 -- ---- "Where none requests, all pass on unchanged."
 abbrev pub NoneRequestsAllPass : Type 0
-NoneRequestsAllPass = (ds : List Device) → AcceptedRow ds → NoneRequests ds → (acknowledged_row ds ≡ map passed_on ds) × (row_answer ds ≡ AllPassed) × (row_after ds ≡ ds)
+NoneRequestsAllPass = (ds : List Device) → AcceptedRow ds → NoneRequests ds → (acknowledged_row ds ≡ map passed_on ds) × (row_answer ds ≡ Ok None) × (row_after ds ≡ ds)
 
 -- ---- "An in-service bit alone does not hold back IEO"
 -- a device without a channel that is pending and unmasked lets the acknowledge through to those below, whatever is in service
@@ -72,11 +71,14 @@ abbrev pub IeoIsNotIrq : Type 0
 IeoIsNotIrq = (d : Device) → ieo (step_of d (Acknowledge true)).answer ≡ not (irq_of d)
 
 -- ---- "In an accepted row the answer and state of a device never depend on any device after it."
--- the row's answer, as far as it concerns the first n devices
-abbrev pub up_to : ℕ → RowAnswer → RowAnswer
-up_to n (Given k v) = cond (ltb k n) (Given k v) AllPassed
-up_to n AllPassed = AllPassed
-up_to n (Refused r k) = Refused r k
+-- who gave, and the row's answer, as far as it concerns the first n devices
+abbrev pub given_up_to : ℕ → Option Given → Option Given
+given_up_to n (Some g) = cond (ltb g.index n) (Some g) None
+given_up_to n None = None
+
+abbrev pub up_to : ℕ → Result (Option Given) RefusedAt → Result (Option Given) RefusedAt
+up_to n (Ok g) = Ok (given_up_to n g)
+up_to n (Err r) = Err r
 
 -- two accepted rows that agree in their first n devices agree there in each answer and state, in what the call leaves and in what it answers
 pub record AgreeUpTo (n : ℕ) (ds es : List Device) : Type 0 where
@@ -91,7 +93,7 @@ NoDeviceDependsOnThoseAfterIt = (n : ℕ) (ds es : List Device) → AcceptedRow 
 abbrev pub RowOfOne : Type 0
 RowOfOne =
     (d : Device) → image_rule d ≡ true
-    → (row_answer (d ∷ []) ≡ given_or (step_of d (Acknowledge true)).answer 0 AllPassed) × (row_after (d ∷ []) ≡ (step_of d (Acknowledge true)).device ∷ [])
+    → (row_answer (d ∷ []) ≡ Ok (given_or (step_of d (Acknowledge true)).answer 0 None)) × (row_after (d ∷ []) ≡ (step_of d (Acknowledge true)).device ∷ [])
 
 -- ---- whatever the row
 abbrev pub RowKeepsLength : Type 0
@@ -106,16 +108,16 @@ AcceptedRowStaysAccepted = (ds : List Device) → AcceptedRow ds → AcceptedRow
 
 -- ---- "Refusals: 10 for a row of none or more than eight, checked first; then 3 for the first device that breaks the image rule, with its index. A refusal leaves the whole row unchanged."
 abbrev pub LengthIsCheckedFirst : Type 0
-LengthIsCheckedFirst = (ds : List Device) → (OneToEight ds → ⊥) → row_answer ds ≡ Refused RowLength 0
+LengthIsCheckedFirst = (ds : List Device) → (OneToEight ds → ⊥) → row_answer ds ≡ Err (record { refusal = RowLength; index = 0 })
 
 abbrev pub ThenTheFirstBroken : Type 0
 ThenTheFirstBroken =
     (above : List Device) (d : Device) (below : List Device) → OneToEight (above ++ (d ∷ below)) → EachKeepsTheRule above → image_rule d ≡ false
-    → row_answer (above ++ (d ∷ below)) ≡ Refused ImageRule (length above)
+    → row_answer (above ++ (d ∷ below)) ≡ Err (record { refusal = ImageRule; index = length above })
 
 abbrev pub RefusedRowUnchanged : Type 0
-RefusedRowUnchanged = (ds : List Device) (r : Refusal) (k : ℕ) → row_answer ds ≡ Refused r k → row_after ds ≡ ds
+RefusedRowUnchanged = (ds : List Device) (r : RefusedAt) → row_answer ds ≡ Err r → row_after ds ≡ ds
 
 -- and nothing else is refused
 abbrev pub AcceptedRowIsNotRefused : Type 0
-AcceptedRowIsNotRefused = (ds : List Device) (r : Refusal) (k : ℕ) → AcceptedRow ds → row_answer ds ≡ Refused r k → ⊥
+AcceptedRowIsNotRefused = (ds : List Device) (r : RefusedAt) → AcceptedRow ds → row_answer ds ≡ Err r → ⊥

@@ -1,18 +1,19 @@
 // The device by value: lines and timer inputs, interrupt controller, four timers; and what a change of
 // its signals does. The rules stand in specs/ and in the crates of the parts. Every function is total;
 // an event is crate step.
-#![tactic(auto)]
+#![tactic(auto, unfolding(crate::specs::Whole::reset_device, crate::specs::Whole::fresh_device, crate::specs::Whole::read_of, crate::specs::Whole::shown_outputs, crate::specs::Whole::image_rule, crate::specs::Signals::counts))]
 
 ghost use Rattle.std.specs.Prelude.{◌≡◌};
 ghost use Rattle.device.specs.Whole.{reset_device, fresh_device, irq_of, shown_outputs, read_of, image_rule};
 ghost use Rattle.device.specs.Signals.{counts, signalled, signal_step};
 ghost use Rattle.lines.specs.Registers.{with_level};
-ghost use Rattle.lines.specs.declared.TimerInput.TheVariants.{Tai, Tbi};
+ghost use Rattle.timer.specs.Timers.{pulse_width};
 
 use channels::Line;
 use events::{Answer, Register};
 use interrupts::Interrupts;
 use lines::{Lines, TimerInput};
+use signals::{Change, Measuring};
 use timeouts::Timeouts;
 use timers::Timers;
 
@@ -44,111 +45,101 @@ impl Device {
     pub fn reset(self) -> Device
         ensures { result ≡ reset_device self }
     {
-        let l = self.lines;
-        let t = self.timers;
         Device {
-            lines: l.reset(),
+            lines: self.lines.reset(),
             interrupts: Interrupts::clear(),
-            timers: t.reset(),
+            timers: self.timers.reset(),
         }
     }
 
     pub fn irq(self) -> bool
         ensures { result ≡ irq_of self }
     {
-        let i = self.interrupts;
-        requests::irq(i)
+        requests::irq(self.interrupts)
     }
 
     // The outputs as an answer shows them, bit 0 A to bit 3 D.
     pub fn outputs(self) -> u8
         ensures { result ≡ shown_outputs self }
     {
-        let t = self.timers;
-        t.outputs()
+        self.timers.outputs()
     }
 
     // ---- signals
 
-    // Whether A's, or B's, input gives a count pulse as the lines become `after`.
-    fn counts_a(self, after: Lines) -> bool
-        ensures { result ≡ counts Tai self.timers self.lines after }
+    // Which timers measure pulses.
+    fn measuring(self) -> Measuring
+        ensures { (result.a ≡ pulse_width self.timers.a.mode) × (result.b ≡ pulse_width self.timers.b.mode) }
     {
-        let l = self.lines;
-        let t = self.timers;
-        let a = t.a;
-        bits::both(
-            a.counts_events(),
-            signals::input_becomes(l, after, TimerInput::Tai),
-        )
+        Measuring {
+            a: self.timers.a.measures_pulses(),
+            b: self.timers.b.measures_pulses(),
+        }
     }
 
-    fn counts_b(self, after: Lines) -> bool
-        ensures { result ≡ counts Tbi self.timers self.lines after }
+    // Whether input i gives its timer a count pulse as the lines become `after`.
+    fn counts(self, i: TimerInput, after: Lines) -> bool
+        ensures { result ≡ counts i self.timers self.lines after }
     {
-        let l = self.lines;
-        let t = self.timers;
-        let b = t.b;
-        bits::both(
-            b.counts_events(),
-            signals::input_becomes(l, after, TimerInput::Tbi),
-        )
+        let timer = match i {
+            TimerInput::Tai => self.timers.a,
+            TimerInput::Tbi => self.timers.b,
+        };
+        let change = Change {
+            before: self.lines,
+            after,
+        };
+        timer.counts_events() & change.input_becomes(i)
     }
 
     // Line i gets this level: no timer input changes, so that only lines can raise.
     pub fn level(self, i: Line, high: bool) -> Device
         ensures { result ≡ signalled (with_level i high self.lines) self }
     {
-        let l = self.lines;
-        let q = self.interrupts;
-        let t = self.timers;
-        let a = t.a;
-        let b = t.b;
-        let after = l.with_level(i, high);
-        let raised = signals::line_raises(l, after, a.measures_pulses(), b.measures_pulses());
-        let mut next = self;
-        next.lines = after;
-        next.interrupts = q.raise(raised);
-        next
+        let after = self.lines.with_level(i, high);
+        let change = Change {
+            before: self.lines,
+            after,
+        };
+        Device {
+            lines: after,
+            interrupts: self.interrupts.raise(change.line_raises(self.measuring())),
+            ..self
+        }
     }
 
     // The signals become those of `after`, by an input event or an AER write.
     pub fn signal(self, after: Lines) -> Stepped
         ensures { result ≡ signal_step after self }
     {
-        let counts_a = self.counts_a(after);
-        let counts_b = self.counts_b(after);
-        let l = self.lines;
-        let i = self.interrupts;
-        let t = self.timers;
-        let a = t.a;
-        let b = t.b;
-        let raised = signals::raises(l, after, a.measures_pulses(), b.measures_pulses());
-        let u = timeouts::count(t, counts_a, counts_b);
-        let next = u.timers;
-        let n = u.timeouts;
-        let d = Device {
-            lines: after,
-            interrupts: i.raise(raised | n.channels()),
-            timers: next,
+        let change = Change {
+            before: self.lines,
+            after,
         };
+        let raised = change.raises(self.measuring());
+        let counted = timeouts::count(
+            self.timers,
+            self.counts(TimerInput::Tai, after),
+            self.counts(TimerInput::Tbi, after),
+        );
         Stepped {
-            device: d,
+            device: Device {
+                lines: after,
+                interrupts: self.interrupts.raise(raised | counted.timeouts.channels()),
+                timers: counted.timers,
+            },
             answer: Answer::Done,
-            timeouts: n,
+            timeouts: counted.timeouts,
         }
     }
 
     pub fn read(self, r: Register) -> u8
         ensures { result ≡ read_of r self }
     {
-        let l = self.lines;
-        let i = self.interrupts;
-        let t = self.timers;
         match r {
-            Register::OfLines(q) => l.read(q),
-            Register::OfInterrupts(q) => i.read(q),
-            Register::OfTimers(q) => t.read(q),
+            Register::OfLines(q) => self.lines.read(q),
+            Register::OfInterrupts(q) => self.interrupts.read(q),
+            Register::OfTimers(q) => self.timers.read(q),
         }
     }
 
@@ -156,8 +147,6 @@ impl Device {
     pub fn keeps_rule(self) -> bool
         ensures { result ≡ image_rule self }
     {
-        let i = self.interrupts;
-        let t = self.timers;
-        bits::both(i.keeps_rule(), t.keeps_rule())
+        self.interrupts.keeps_rule() && self.timers.keeps_rule()
     }
 }

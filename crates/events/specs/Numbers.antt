@@ -1,5 +1,5 @@
 -- Document 01, "Tape and answers": this paper's number and value for each case of an answer, and the refusals' numbers.
-use Rattle.std.specs.Prelude.{ℕ}
+use Rattle.std.specs.Prelude.{ℕ, ◌+◌, ◌*◌}
 use Rattle.events.specs.declared.Answer.{Answer}
 use Rattle.events.specs.declared.Answer.TheVariants.{Done, Data, Vector, PassedOn, Held}
 use Rattle.events.specs.declared.Refusal.{Refusal}
@@ -33,3 +33,7 @@ number_of Operand = 7
 number_of Serial = 8
 number_of AnswerLength = 9
 number_of RowLength = 10
+
+-- "The C call returns 0, or 256 × index of the bad record (0 for 1 to 4 and 9) + number."
+abbrev pub returned : Refusal → ℕ → ℕ
+returned r i = 256 * i + number_of r

@@ -4,7 +4,7 @@
 
 ghost use Rattle.std.specs.Prelude.{◌≡◌};
 ghost use Rattle.lines.specs.Registers.{is_line};
-ghost use Rattle.events.specs.Numbers.{class_of, value_of, number_of};
+ghost use Rattle.events.specs.Numbers.{class_of, value_of, number_of, returned};
 ghost use Rattle.events.specs.Ranges.{is_serial_channel, in_range};
 
 use channels::{Channel, Line};
@@ -41,19 +41,26 @@ pub enum Answer {
     Held,
 }
 
-// The refusals of document 01 in its order, then the row's (document 02, 1/13).
-#[derive(Clone, Copy)]
+// The refusals of document 01 by its numbers, then the row's (document 02, 1/13).
+#[derive(Clone, Copy, Debug, PartialEq, Eq)]
 pub enum Refusal {
-    ImageLength,
-    ImageMark,
-    ImageRule,
-    TapeLength,
-    RecordMark,
-    Kind,
-    Operand,
-    Serial,
-    AnswerLength,
-    RowLength,
+    ImageLength = 1,
+    ImageMark = 2,
+    ImageRule = 3,
+    TapeLength = 4,
+    RecordMark = 5,
+    Kind = 6,
+    Operand = 7,
+    Serial = 8,
+    AnswerLength = 9,
+    RowLength = 10,
+}
+
+// A refusal and where: the index of the bad record, in a row of the bad image or device, else 0.
+#[derive(Clone, Copy, Debug, PartialEq, Eq)]
+pub struct RefusedAt {
+    pub refusal: Refusal,
+    pub index: u16,
 }
 
 // Whether a number is a line's.
@@ -67,7 +74,7 @@ pub fn is_line(a: u8) -> bool
 pub fn is_serial_channel(a: u8) -> bool
     ensures { result ≡ is_serial_channel a }
 {
-    bits::both(9 <= a, a <= 12)
+    (9 <= a) & (a <= 12)
 }
 
 // Whether an event's operands are in range.
@@ -86,7 +93,7 @@ pub fn is_in_range(e: Event) -> bool
     }
 }
 
-// The paper's number of an answer's class.
+// The paper's number of an answer's class: a part of the answer, so no conversion of it.
 pub fn class_of(a: Answer) -> u8
     ensures { result ≡ class_of a }
 {
@@ -99,7 +106,7 @@ pub fn class_of(a: Answer) -> u8
     }
 }
 
-// Its value, 0 if none.
+// Its value, 0 if none, as the answer's byte has it.
 pub fn value_of(a: Answer) -> u8
     ensures { result ≡ value_of a }
 {
@@ -116,16 +123,14 @@ pub fn value_of(a: Answer) -> u8
 pub fn number_of(r: Refusal) -> u8
     ensures { result ≡ number_of r }
 {
-    match r {
-        Refusal::ImageLength => 1,
-        Refusal::ImageMark => 2,
-        Refusal::ImageRule => 3,
-        Refusal::TapeLength => 4,
-        Refusal::RecordMark => 5,
-        Refusal::Kind => 6,
-        Refusal::Operand => 7,
-        Refusal::Serial => 8,
-        Refusal::AnswerLength => 9,
-        Refusal::RowLength => 10,
+    r as u8
+}
+
+impl RefusedAt {
+    // What the C call returns of it.
+    pub fn code(self) -> u32
+        ensures { result ≡ returned self.refusal self.index }
+    {
+        256 * u32::from(self.index) + u32::from(number_of(self.refusal))
     }
 }

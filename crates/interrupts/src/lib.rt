@@ -1,7 +1,7 @@
 // The interrupt controller's registers: four sets of sixteen channels and the vector register, by value.
 // The rules stand in specs/Interrupts.antt; those of requests and of the acknowledge are crate requests.
 // A method hands back the interrupts as they then are, written out whole (D87). Every function is total.
-#![tactic(auto)]
+#![tactic(auto, unfolding(channels::specs::Channels::has, crate::specs::Interrupts::kept, crate::specs::Interrupts::S, crate::specs::Interrupts::vector_written, crate::specs::Interrupts::interrupt_read, crate::specs::Interrupts::interrupt_written, crate::specs::Interrupts::raised, crate::specs::Interrupts::interrupt_rule))]
 
 ghost use Rattle.std.specs.Prelude.{◌≡◌};
 ghost use Rattle.interrupts.specs.Interrupts.{kept, S, enabled_written, pending_written, service_written, mask_written, vector_written, vector_bits, interrupt_read, interrupt_written, clear_interrupts, raised, interrupt_rule};
@@ -65,24 +65,17 @@ impl Interrupts {
     pub fn written_out(self) -> Interrupts
         ensures { result ≡ self }
     {
-        Interrupts {
-            enabled: self.enabled,
-            pending: self.pending,
-            service: self.service,
-            mask: self.mask,
-            vector: self.vector,
-        }
+        Interrupts { ..self }
     }
 
+    // Each register is written by a rule of its own, so each has a function of its own.
     fn write_enabled(self, h: Half, v: u8) -> Interrupts
         ensures { result ≡ enabled_written h v self }
     {
         Interrupts {
             enabled: channels::with_half(h, self.enabled, v),
             pending: keep(h, self.pending, v),
-            service: self.service,
-            mask: self.mask,
-            vector: self.vector,
+            ..self
         }
     }
 
@@ -90,11 +83,8 @@ impl Interrupts {
         ensures { result ≡ pending_written h v self }
     {
         Interrupts {
-            enabled: self.enabled,
             pending: keep(h, self.pending, v),
-            service: self.service,
-            mask: self.mask,
-            vector: self.vector,
+            ..self
         }
     }
 
@@ -102,11 +92,8 @@ impl Interrupts {
         ensures { result ≡ service_written h v self }
     {
         Interrupts {
-            enabled: self.enabled,
-            pending: self.pending,
             service: keep(h, self.service, v),
-            mask: self.mask,
-            vector: self.vector,
+            ..self
         }
     }
 
@@ -114,33 +101,19 @@ impl Interrupts {
         ensures { result ≡ mask_written h v self }
     {
         Interrupts {
-            enabled: self.enabled,
-            pending: self.pending,
-            service: self.service,
             mask: channels::with_half(h, self.mask, v),
-            vector: self.vector,
+            ..self
         }
     }
 
     fn write_vector(self, v: u8) -> Interrupts
         ensures { result ≡ vector_written v self }
     {
-        let vector = vector_bits(v);
-        if software_end(v) {
-            return Interrupts {
-                enabled: self.enabled,
-                pending: self.pending,
-                service: self.service,
-                mask: self.mask,
-                vector: vector,
-            };
-        }
+        let service = if software_end(v) { self.service } else { 0 };
         Interrupts {
-            enabled: self.enabled,
-            pending: self.pending,
-            service: 0,
-            mask: self.mask,
-            vector: vector,
+            service,
+            vector: vector_bits(v),
+            ..self
         }
     }
 
@@ -173,27 +146,16 @@ impl Interrupts {
         ensures { result ≡ raised s self }
     {
         Interrupts {
-            enabled: self.enabled,
             pending: self.pending | s & self.enabled,
-            service: self.service,
-            mask: self.mask,
-            vector: self.vector,
+            ..self
         }
     }
 
     pub fn keeps_rule(self) -> bool
         ensures { result ≡ interrupt_rule self }
     {
-        let within = self.pending & self.enabled;
-        if self.vector % 8 != 0 {
-            return false;
-        }
-        if within != self.pending {
-            return false;
-        }
-        if software_end(self.vector) {
-            return true;
-        }
-        self.service == 0
+        self.vector % 8 == 0
+            && self.pending & self.enabled == self.pending
+            && (software_end(self.vector) || self.service == 0)
     }
 }

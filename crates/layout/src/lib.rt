@@ -1,8 +1,8 @@
 // The parts of a device read from the 32 bytes of an image. The table of bytes stands in
-// specs/Layout.antt, both ways. Each reader asks for a whole image.
+// specs/Layout.antt, both ways. Each reader takes a whole image.
 #![tactic(auto)]
 
-ghost use Rattle.std.specs.Prelude.{◌≡◌, ◌+◌, ◌*◌, ◌<◌, length};
+ghost use Rattle.std.specs.Prelude.{◌≡◌, ◌+◌, ◌<◌};
 ghost use Rattle.channels.specs.Channels.{has};
 ghost use Rattle.layout.specs.Layout.{image_bytes, lines_from, interrupts_from, timers_from, timer_from};
 
@@ -13,13 +13,7 @@ use timers::Timers;
 
 pub const IMAGE_BYTES: usize = 32;
 
-// A set of channels from its registers A and B.
-fn pair(a: u8, b: u8) -> u16
-    ensures { result ≡ a * 256 + b }
-{
-    a as u16 * 256 + b as u16
-}
-
+#[tactic(auto, unfolding(channels::specs::Channels::has))]
 fn bit_at(b: u8, k: u8) -> bool
     requires { k < 8 }
     ensures { result ≡ has b k }
@@ -27,8 +21,8 @@ fn bit_at(b: u8, k: u8) -> bool
     (b >> k) % 2 == 1
 }
 
-pub fn lines_from(image: &[u8]) -> Lines
-    requires { length image.now ≡ image_bytes }
+#[tactic(auto, unfolding(crate::specs::Layout::lines_from))]
+pub fn lines_from(image: &[u8; IMAGE_BYTES]) -> Lines
     ensures { result ≡ lines_from image.now }
 {
     let inputs = image[31];
@@ -42,36 +36,37 @@ pub fn lines_from(image: &[u8]) -> Lines
     }
 }
 
-pub fn interrupts_from(image: &[u8]) -> Interrupts
-    requires { length image.now ≡ image_bytes }
+#[tactic(auto, unfolding(crate::specs::Layout::interrupts_from))]
+pub fn interrupts_from(image: &[u8; IMAGE_BYTES]) -> Interrupts
     ensures { result ≡ interrupts_from image.now }
 {
+    // each set from its registers A and B
     Interrupts {
-        enabled: pair(image[5], image[6]),
-        pending: pair(image[7], image[8]),
-        service: pair(image[9], image[10]),
-        mask: pair(image[11], image[12]),
+        enabled: u16::from_be_bytes([image[5], image[6]]),
+        pending: u16::from_be_bytes([image[7], image[8]]),
+        service: u16::from_be_bytes([image[9], image[10]]),
+        mask: u16::from_be_bytes([image[11], image[12]]),
         vector: image[13],
     }
 }
 
-// The timer whose data value stands at byte `at`, with this mode and output.
-fn timer_from(image: &[u8], at: usize, mode: u8, output: bool) -> Timer
-    requires whole_image { length image.now ≡ image_bytes }
-    requires within_image { at + 8 < image_bytes }
+// The timer whose data value stands at byte `at`, with this mode and output. One place for three bytes,
+// since the counter and the position stand four and eight bytes on.
+fn timer_from(image: &[u8; IMAGE_BYTES], at: usize, mode: u8, output: bool) -> Timer
+    requires { at + 8 < image_bytes }
     ensures { result ≡ timer_from image.now at mode output }
 {
     Timer {
-        mode: mode,
+        mode,
         reload: image[at],
         counter: image[at + 4],
         position: image[at + 8],
-        output: output,
+        output,
     }
 }
 
-pub fn timers_from(image: &[u8]) -> Timers
-    requires { length image.now ≡ image_bytes }
+#[tactic(auto, unfolding(crate::specs::Layout::timers_from))]
+pub fn timers_from(image: &[u8; IMAGE_BYTES]) -> Timers
     ensures { result ≡ timers_from image.now }
 {
     let tcdcr = image[16];

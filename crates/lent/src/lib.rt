@@ -9,47 +9,51 @@ use device::Device;
 use events::{Answer, Event, Refusal};
 use timeouts::Timeouts;
 
+// What an event gives that is not refused.
 #[derive(Clone, Copy)]
-pub enum Outcome {
-    Answered(Answer, Timeouts),
-    Refused(Refusal),
+pub struct Answered {
+    pub answer: Answer,
+    pub timeouts: Timeouts,
 }
 
+// The record after an event, and the event's answer or its refusal: refused, the record as it came. It
+// stands beside the `Result`, since `handled_of` says of a refusal too what becomes of the record.
 #[derive(Clone, Copy)]
 pub struct Handled {
     pub device: Device,
-    pub outcome: Outcome,
+    pub outcome: Result<Answered, Refusal>,
 }
 
 // One event of a device record, or refusal 3 or 7, with the record as it came.
+#[tactic(auto, unfolding(crate::specs::Handling::handled_of))]
 pub fn handle(d: Device, e: Event) -> Handled
     ensures { result ≡ handled_of d e }
 {
     if !d.keeps_rule() {
         return Handled {
             device: d,
-            outcome: Outcome::Refused(Refusal::ImageRule),
+            outcome: Err(Refusal::ImageRule),
         };
     }
     if !events::is_in_range(e) {
         return Handled {
             device: d,
-            outcome: Outcome::Refused(Refusal::Operand),
+            outcome: Err(Refusal::Operand),
         };
     }
     let s = step::step(d, e);
-    let after = s.device;
-    let a = s.answer;
-    let n = s.timeouts;
     Handled {
-        device: after,
-        outcome: Outcome::Answered(a, n),
+        device: s.device,
+        outcome: Ok(Answered {
+            answer: s.answer,
+            timeouts: s.timeouts,
+        }),
     }
 }
 
 // One event of a lent record. A record that breaks the image rule is refused with 3, an operand out
 // of range with 7; the record is then as it came.
-pub fn event(d: &mut Device, e: Event) -> Outcome
+pub fn event(d: &mut Device, e: Event) -> Result<Answered, Refusal>
     ensures { (result ≡ (handled_of d.old e).outcome) × (d.new ≡ (handled_of d.old e).device) }
 {
     let out = handle(*d, e);
@@ -57,14 +61,12 @@ pub fn event(d: &mut Device, e: Event) -> Outcome
     out.outcome
 }
 
-// The same by value, over a local that it lends: its callers lend nothing.
+// The same by value, over a local that it lends: its callers lend nothing. It has a promise and an edit of its own
+// (lent/by_value_left).
 pub fn event_by_value(d: Device, e: Event) -> Handled
     ensures as_handled { result ≡ handled_of d e }
 {
-    let mut n = d;
-    let o = event(&mut n, e);
-    Handled {
-        device: n,
-        outcome: o,
-    }
+    let mut device = d;
+    let outcome = event(&mut device, e);
+    Handled { device, outcome }
 }

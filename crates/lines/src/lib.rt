@@ -1,6 +1,6 @@
 // The eight lines and the two timer inputs, by value: GPDR, AER, DDR and the levels. The rules stand in
 // specs/Registers.antt; what a change of signals raises is crate signals. Every function is total.
-#![tactic(auto)]
+#![tactic(auto, unfolding(crate::specs::Registers::line_read, crate::specs::Registers::line_written, crate::specs::Registers::with_level, crate::specs::Registers::with_input))]
 
 ghost use Rattle.std.specs.Prelude.{◌≡◌};
 ghost use Rattle.lines.specs.Registers.{line_read, line_written, with_level, with_input, reset_lines, fresh_lines};
@@ -49,24 +49,18 @@ impl Lines {
     pub fn written_out(self) -> Lines
         ensures { result ≡ self }
     {
-        Lines {
-            gpdr: self.gpdr,
-            aer: self.aer,
-            ddr: self.ddr,
-            levels: self.levels,
-            tai: self.tai,
-            tbi: self.tbi,
-        }
+        Lines { ..self }
     }
 
     pub fn reset(self) -> Lines
         ensures { result ≡ reset_lines self }
     {
-        let mut l = self;
-        l.gpdr = 0;
-        l.aer = 0;
-        l.ddr = 0;
-        l
+        Lines {
+            gpdr: 0,
+            aer: 0,
+            ddr: 0,
+            ..self
+        }
     }
 
     pub fn read(self, r: LineRegister) -> u8
@@ -79,35 +73,13 @@ impl Lines {
         }
     }
 
-    // Written out (D87).
     pub fn write(self, r: LineRegister, v: u8) -> Lines
         ensures { result ≡ line_written r v self }
     {
         match r {
-            LineRegister::Gpdr => Lines {
-                gpdr: v,
-                aer: self.aer,
-                ddr: self.ddr,
-                levels: self.levels,
-                tai: self.tai,
-                tbi: self.tbi,
-            },
-            LineRegister::Aer => Lines {
-                gpdr: self.gpdr,
-                aer: v,
-                ddr: self.ddr,
-                levels: self.levels,
-                tai: self.tai,
-                tbi: self.tbi,
-            },
-            LineRegister::Ddr => Lines {
-                gpdr: self.gpdr,
-                aer: self.aer,
-                ddr: v,
-                levels: self.levels,
-                tai: self.tai,
-                tbi: self.tbi,
-            },
+            LineRegister::Gpdr => Lines { gpdr: v, ..self },
+            LineRegister::Aer => Lines { aer: v, ..self },
+            LineRegister::Ddr => Lines { ddr: v, ..self },
         }
     }
 
@@ -115,40 +87,24 @@ impl Lines {
     pub fn with_level(self, i: Line, high: bool) -> Lines
         ensures { result ≡ with_level i high self }
     {
-        let number = i.0;
-        if 7 < number {
+        if 7 < i.0 {
             return self;
         }
-        let mask = 1u8 << number;
-        let mut l = self;
-        if high {
-            l.levels = self.levels | mask;
-            return l;
-        }
-        l.levels = self.levels & 255 - mask;
-        l
+        let mask = 1u8 << i.0;
+        let levels = if high {
+            self.levels | mask
+        } else {
+            self.levels & 255 - mask
+        };
+        Lines { levels, ..self }
     }
 
     pub fn with_input(self, i: TimerInput, high: bool) -> Lines
         ensures { result ≡ with_input i high self }
     {
         match i {
-            TimerInput::Tai => Lines {
-                gpdr: self.gpdr,
-                aer: self.aer,
-                ddr: self.ddr,
-                levels: self.levels,
-                tai: high,
-                tbi: self.tbi,
-            },
-            TimerInput::Tbi => Lines {
-                gpdr: self.gpdr,
-                aer: self.aer,
-                ddr: self.ddr,
-                levels: self.levels,
-                tai: self.tai,
-                tbi: high,
-            },
+            TimerInput::Tai => Lines { tai: high, ..self },
+            TimerInput::Tbi => Lines { tbi: high, ..self },
         }
     }
 }

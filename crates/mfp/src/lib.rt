@@ -1,4 +1,5 @@
-// The calls of the C face, on lent byte buffers, and nothing else. crates/mfp_c exports them to C.
+// The calls of the C face, on lent byte buffers, and nothing else. crates/mfp_c exports them to C. C takes a number
+// where the calls below answer a Result.
 #![tactic(auto)]
 
 ghost use Rattle.std.specs.Prelude.{◌≡◌};
@@ -7,6 +8,8 @@ ghost use Rattle.row_images.specs.RowImages.{row_result, row_images};
 ghost use Rattle.mfp.specs.Calls.{fresh_result, fresh_over};
 
 use device::Device;
+use events::Refusal;
+use layout::IMAGE_BYTES;
 
 // Runs a tape on the device of an image: 0, or 256 × index of the bad record + the refusal's number.
 pub fn mfp_run(image: &mut [u8], tape: &[u8], answers: &mut [u8]) -> u32
@@ -14,15 +17,19 @@ pub fn mfp_run(image: &mut [u8], tape: &[u8], answers: &mut [u8]) -> u32
         × (image.new ≡ image_after image.old tape.now answers.old)
         × (answers.new ≡ answers_after image.old tape.now answers.old) }
 {
-    run::run(image, tape, answers)
+    match run::run(image, tape, answers) {
+        Ok(()) => 0,
+        Err(refused) => refused.code(),
+    }
 }
 
 // Writes the image of a fresh device: 0, or 1 where the buffer is not of an image's length.
+#[tactic(auto, unfolding(crate::specs::Calls::fresh_result, crate::specs::Calls::fresh_over, image::specs::Image::stored_over))]
 pub fn mfp_fresh(image: &mut [u8]) -> u32
     ensures { (result ≡ fresh_result image.old) × (image.new ≡ fresh_over image.old) }
 {
-    if image.len() != layout::IMAGE_BYTES {
-        return 1;
+    if image.len() != IMAGE_BYTES {
+        return Refusal::ImageLength as u32;
     }
     image::store(Device::fresh(), image);
     0
@@ -34,5 +41,8 @@ pub fn mfp_fresh(image: &mut [u8]) -> u32
 pub fn mfp_row_acknowledge(images: &mut [u8]) -> u64
     ensures { (result ≡ row_result images.old) × (images.new ≡ row_images images.old) }
 {
-    row_images::acknowledge(images)
+    match row_images::acknowledge(images) {
+        Ok(told) => u64::from(told) << 32,
+        Err(refused) => u64::from(refused.code()),
+    }
 }

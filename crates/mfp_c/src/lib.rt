@@ -1,5 +1,6 @@
 // The C face, exported: each call hands its buffers on to the function of crates/mfp of the same name and
-// clauses. host/include/mfp.h declares them.
+// clauses, in a crate of its own, since a static library is no library for other crates. host/include/mfp.h
+// declares them.
 #![tactic(auto)]
 
 ghost use Rattle.std.specs.Prelude.{◌≡◌};

@@ -1,4 +1,5 @@
 -- The event that the run takes of a record let pass is the event that the record means: n is then its lowest byte in all kinds but 5. Assumes nothing.
+use Rattle.std.specs.Prelude.{Option, Some, None, Result, Ok}
 use Prim.Native.Nat.{ℕ, zero, suc, ◌≤◌}
 use mathlib.Core.Path.{◌≡◌, refl, sym, ap, ◌∙◌}
 use mathlib.Core.Bool.{Bool, true, false, ◌&&◌}
@@ -8,13 +9,12 @@ use lib.ListN.{get_or}
 use borrow.Author.Tests.{leb-true}
 use Rattle.channels.specs.Channels.{line, channel}
 use Rattle.lines.specs.Registers.{is_line}
+use Rattle.events.specs.declared.Register.{Register}
 use Rattle.events.specs.declared.Event.{Event}
 use Rattle.events.specs.declared.Event.TheVariants.{Read, Write, Level, Input, Raise}
+use Rattle.events.specs.declared.Refusal.{Refusal}
 use Rattle.events.specs.declared.Refusal.TheVariants.{RecordMark, Operand}
 use Rattle.events.specs.Ranges.{is_serial_channel}
-use Rattle.selects.specs.declared.Selected.{Selected}
-use Rattle.selects.specs.declared.Selected.TheVariants.{Known, SerialPort}
-use Rattle.record.specs.declared.Decoded.TheVariants.{Valid}
 use Rattle.selects.specs.Selects.{read_select, write_select}
 use Rattle.record.specs.Records.{Raw, record_mark0, record_mark1, reading, writing, input_of, event_of, operand, meant}
 use Rattle.selects.specs.Selects.{known_of}
@@ -22,17 +22,17 @@ use Rattle.record.specs.Taken.{taken_as, taken}
 use Rattle.record.proofs.Operands.{low}
 use Rattle.record.proofs.Verdicts.{no_event, tested}
 
-one : {x e : Event} → Valid x ≡ Valid e → x ≡ e
+one : {x e : Event} → ◌≡◌ {A = Result Event Refusal} (Ok x) (Ok e) → x ≡ e
 one p = cc
 
 -- a select that was let pass is known
-read_one : (s : Selected) (e : Event) → reading s ≡ Valid e → Read (known_of s) ≡ e
-read_one (Known r) e p = one p
-read_one SerialPort e p = no_event p
+read_one : (s : Option Register) (e : Event) → reading s ≡ Ok e → Read (known_of s) ≡ e
+read_one (Some r) e p = one p
+read_one None e p = no_event p
 
-write_one : (s : Selected) (n : ℕ) (e : Event) → writing s n ≡ Valid e → Write (known_of s) n ≡ e
-write_one (Known r) n e p = one p
-write_one SerialPort n e p = no_event p
+write_one : (s : Option Register) (n : ℕ) (e : Event) → writing s n ≡ Ok e → Write (known_of s) n ≡ e
+write_one (Some r) n e p = one p
+write_one None n e p = no_event p
 
 both_right : (s t : Bool) → (s && t) ≡ true → t ≡ true
 both_right true t p = p
@@ -40,7 +40,7 @@ both_right false true p = refl
 both_right false false p = p
 
 module _ (r : Raw) (e : Event) where
-  by_kind : (k : ℕ) → event_of k r.a (operand r) ≡ Valid e → get_or (taken_as r) k (Raise (channel r.a)) ≡ e
+  by_kind : (k : ℕ) → event_of k r.a (operand r) ≡ Ok e → get_or (taken_as r) k (Raise (channel r.a)) ≡ e
   unfolding event_of
   by_kind zero p = one (tested (eqb r.a 0 && eqb (operand r) 0) Operand p).1
   by_kind (suc zero) p = read_one (read_select r.a) e (tested (leb r.a 23 && eqb (operand r) 0) Operand p).1
@@ -60,6 +60,6 @@ module _ (r : Raw) (e : Event) where
   by_kind (suc (suc (suc (suc (suc (suc (suc zero))))))) p = one (tested (is_serial_channel r.a && eqb (operand r) 0) Operand p).1
   by_kind (suc (suc (suc (suc (suc (suc (suc (suc k)))))))) p = no_event p
 
-  pub taken_is_meant : meant r ≡ Valid e → taken r ≡ e
+  pub taken_is_meant : meant r ≡ Ok e → taken r ≡ e
   unfolding meant taken
   taken_is_meant p = by_kind r.kind (tested (eqb r.mark0 record_mark0 && eqb r.mark1 record_mark1) RecordMark p).1

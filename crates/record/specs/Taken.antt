@@ -1,4 +1,4 @@
--- What the run takes of a record that the check has let pass, without looking at it whole again: its kind, its a and the lowest byte of n decide. `tape::event_at` promises it; of such a record it is the very event that the record means (proofs/Taken.antt: taken_is_meant).
+-- What the run takes of a record that the check has let pass, without looking at it whole again: its kind, its a and the lowest byte of n decide. `tape::event_of` promises it; of such a record it is the very event that the record means (proofs/Taken.antt: taken_is_meant).
 use Rattle.std.specs.Prelude.{List, [], ◌∷◌, eqb, get_or}
 use Rattle.channels.specs.Channels.{line, channel}
 use Rattle.events.specs.declared.Event.{Event}

@@ -1,9 +1,8 @@
 -- The verdict on a record: whether its bytes mean an event, or the refusal. What Records says of them, without the event.
-use Rattle.record.specs.declared.Decoded.{Decoded}
-use Rattle.record.specs.declared.Decoded.TheVariants.{Valid, Invalid}
-use Rattle.record.specs.declared.Verdict.{Verdict}
-use Rattle.record.specs.declared.Verdict.TheVariants.{Sound, Wrong}
+use Rattle.std.specs.Prelude.{Result, Ok, Err}
+use Rattle.events.specs.declared.Event.{Event}
+use Rattle.events.specs.declared.Refusal.{Refusal}
 
-abbrev pub verdict_of : Decoded → Verdict
-verdict_of (Valid e) = Sound
-verdict_of (Invalid r) = Wrong r
+abbrev pub verdict_of : Result Event Refusal → Result (Unit {0}) Refusal
+verdict_of (Ok e) = Ok tt
+verdict_of (Err r) = Err r

@@ -1,25 +1,10 @@
 // The replay program: reads a tape from standard input and prints what it does to a fresh device.
-// One byte more than the longest tape is enough to see that an input is too long. Where the input cannot be
-// read, or not all of the output be written, it says so on standard error and ends with status 1.
 #![tactic(auto)]
 
 use std::io;
-use std::io::Write;
 use std::process::ExitCode;
-use tape::TAPE_MOST;
-use transcript::ENOUGH;
 
 fn main(rt: HostRuntime) -> io::Result<ExitCode> {
-    let mut tape = [0u8; TAPE_MOST + 1];
-    let Ok(n) = input::read_full(&mut rt.stdin(), &mut tape) else {
-        eprintln!(rt; "replay: the input could not be read")?;
-        return Ok(ExitCode::FAILURE);
-    };
-    let mut out = [0u8; ENOUGH];
-    let r = transcript::transcript(&tape[..n], &mut out);
-    if rt.stdout().write_all(&out[..r]).is_err() {
-        eprintln!(rt; "replay: not all of the output was written")?;
-        return Ok(ExitCode::FAILURE);
-    }
-    Ok(ExitCode::SUCCESS)
+    let done = program::replay(&mut rt.stdin(), &mut rt.stdout(), transcript::transcript);
+    program::status(&rt, "replay", done)
 }

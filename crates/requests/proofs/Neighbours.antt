@@ -1,5 +1,6 @@
 -- What an acknowledge does to each channel. The failure that this part must make impossible is an acknowledge that
 -- clears a neighbour's pending bit: `acknowledge_clears_one` says that it clears its own channel's and no other. Assumes nothing.
+use Rattle.std.proofs.Common.{Some}
 use Prim.Native.Nat.{ℕ, ◌-◌, ◌^◌, ◌<◌}
 use mathlib.Core.Path.{◌≡◌, refl, ap, ◌∙◌}
 use mathlib.Core.Bool.{Bool, true, cond, not, ◌&&◌, ◌||◌, beq}
@@ -10,7 +11,6 @@ use Rattle.interrupts.specs.Interrupts.{S}
 use Rattle.requests.specs.Requests.{given, highest, acknowledged}
 use Rattle.channels.specs.declared.Channel.{Channel}
 use Rattle.interrupts.specs.declared.Interrupts.{Interrupts}
-use Rattle.requests.specs.declared.Requesting.TheVariants.{By}
 use Rattle.channels.proofs.Tables.{all_below, everywhere, same}
 use Rattle.channels.proofs.Sets.{has_and, has_or, has_set_of}
 use Rattle.requests.proofs.Requests.{requesting_below, vectored}
@@ -24,7 +24,7 @@ unfolding others has
 has_others c k h l = same _ _ (everywhere 16 (others c) (everywhere 16 (λ (c : ℕ). all_below 16 (others c)) tt c h) k l)
 
 -- ---- an acknowledge that gives channel c's vector clears c's pending bit and touches no neighbour
-module _ (i : Interrupts) (c : Channel) (h : highest i ≡ By c) where
+module _ (i : Interrupts) (c : Channel) (h : highest i ≡ Some c) where
   pub acknowledge_clears_one : (k : ℕ) → k < 16 → has (acknowledged true i).interrupts.pending k ≡ (has i.pending k && not (eqb c.0 k))
   unfolding given set_of
   acknowledge_clears_one k l =

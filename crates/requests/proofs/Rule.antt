@@ -1,4 +1,5 @@
 -- An acknowledge keeps the interrupt controller's part of the image rule. Assumes nothing.
+use Rattle.std.proofs.Common.{Option, Some, None}
 use Prim.Native.Nat.{◌-◌}
 use mathlib.Core.Path.{ap, ◌∙◌}
 use mathlib.Core.Bool.{Bool, true, false, cond}
@@ -8,8 +9,6 @@ use Rattle.channels.specs.declared.Channel.{Channel}
 use Rattle.interrupts.specs.declared.Interrupts.{Interrupts}
 use Rattle.interrupts.proofs.Rule.{Ruled, part_within}
 use Rattle.requests.specs.Requests.{given, acknowledged_by, acknowledged, highest}
-use Rattle.requests.specs.declared.Requesting.{Requesting}
-use Rattle.requests.specs.declared.Requesting.TheVariants.{By, Nobody}
 
 module _ (i : Interrupts) (r : Ruled i) where
   given_ruled : (c : Channel) → Ruled (given c i)
@@ -25,6 +24,6 @@ module _ (i : Interrupts) (r : Ruled i) where
   acknowledged_ruled false = r
   acknowledged_ruled true = go (highest i)
     where
-      go : (q : Requesting) → Ruled (acknowledged_by q i).interrupts
-      go (By c) = given_ruled c
-      go Nobody = r
+      go : (q : Option Channel) → Ruled (acknowledged_by q i).interrupts
+      go (Some c) = given_ruled c
+      go None = r

@@ -1,7 +1,7 @@
 // Requests and the acknowledge: which channel requests, whether IRQ is asserted, and what an acknowledge
-// gives and leaves. The rules stand in specs/Requests.antt. Interrupts are handed back written out whole
-// (D87). Every function is total.
-#![tactic(auto)]
+// gives and leaves. The rules stand in specs/Requests.antt. Every function is
+// total.
+#![tactic(auto, unfolding(crate::specs::Requests::given))]
 
 ghost use Rattle.std.specs.Prelude.{◌≡◌, ◌^◌, ◌<◌, ◌&&◌, ltb};
 ghost use Rattle.std.specs.Int.Bits.{bit_and};
@@ -11,13 +11,6 @@ ghost use Rattle.requests.specs.Requests.{highest, irq, given, acknowledged};
 
 use channels::Channel;
 use interrupts::Interrupts;
-
-// The highest requesting channel, if any.
-#[derive(Clone, Copy)]
-pub enum Requesting {
-    By(Channel),
-    Nobody,
-}
 
 // What an acknowledge gives.
 #[derive(Clone, Copy)]
@@ -34,37 +27,33 @@ pub struct Acknowledged {
 }
 
 // Whether channel c, one of the sixteen, is wanted and no channel equal to or above it in service.
+#[tactic(auto, using(channels::proofs::Sets::shifted), unfolding(channels::specs::Channels::has))]
 fn asks(wanted: u16, service: u16, c: u8) -> bool
     requires { c < 16 }
     ensures { result ≡ (has wanted c && ltb service (2 ^ c)) }
 {
-    if (wanted >> c) % 2 != 1 {
-        return false;
-    }
-    service < 1u16 << c
+    (wanted >> c) % 2 == 1 && service < 1u16 << c
 }
 
 // The highest requesting channel of interrupts in which these are pending and unmasked, and these in
 // service: a walk from channel 15 down, spared where none is wanted. It takes the two sets alone, so
 // that a call copies no interrupts.
-fn search(wanted: u16, service: u16) -> Requesting
+fn search(wanted: u16, service: u16) -> Option<Channel>
     ensures { (i : InterruptsT) → bit_and i.pending i.mask ≡ wanted → i.service ≡ service → result ≡ highest i }
 {
     if wanted == 0 {
-        return Requesting::Nobody;
+        return None;
     }
-    let mut c: u8 = 16;
-    while 0 < c {
-        c -= 1;
+    for c in (0..16).rev() {
         if asks(wanted, service, c) {
-            return Requesting::By(Channel(c));
+            return Some(Channel(c));
         }
     }
-    Requesting::Nobody
+    None
 }
 
 // The highest requesting channel.
-pub fn highest(i: Interrupts) -> Requesting
+pub fn highest(i: Interrupts) -> Option<Channel>
     ensures { result ≡ highest i }
 {
     search(i.pending & i.mask, i.service)
@@ -84,22 +73,15 @@ fn give(i: Interrupts, c: Channel) -> Interrupts
     ensures { result ≡ given c i }
 {
     let set = channels::set_of(c);
-    let pending = i.pending & 65535 - set;
-    if interrupts::software_end(i.vector) {
-        return Interrupts {
-            enabled: i.enabled,
-            pending: pending,
-            service: i.service | set,
-            mask: i.mask,
-            vector: i.vector,
-        };
-    }
+    let service = if interrupts::software_end(i.vector) {
+        i.service | set
+    } else {
+        i.service
+    };
     Interrupts {
-        enabled: i.enabled,
-        pending: pending,
-        service: i.service,
-        mask: i.mask,
-        vector: i.vector,
+        pending: i.pending & 65535 - set,
+        service,
+        ..i
     }
 }
 
@@ -112,15 +94,14 @@ pub fn acknowledge(i: Interrupts, iei: bool) -> Acknowledged
             reply: Reply::Held,
         };
     }
-    let Requesting::By(c) = highest(i) else {
-        return Acknowledged {
+    match highest(i) {
+        Some(c) => Acknowledged {
+            interrupts: give(i, c),
+            reply: Reply::Vector(i.vector / 16 * 16 + c.0),
+        },
+        None => Acknowledged {
             interrupts: i,
             reply: Reply::PassedOn,
-        };
-    };
-    let v = i.vector / 16 * 16 + c.0;
-    Acknowledged {
-        interrupts: give(i, c),
-        reply: Reply::Vector(v),
+        },
     }
 }

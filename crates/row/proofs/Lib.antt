@@ -1,2 +1,2 @@
--- What the walk shares: the turns over a row.
+-- What the two loops over a row share.
 pub mod Going

@@ -1,3 +1,2 @@
 -- A row of devices, acknowledged together.
 pub mod Rows
-pub mod Private

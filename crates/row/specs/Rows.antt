@@ -1,15 +1,15 @@
 -- Document 02, 1/13: an acknowledge over a row of devices chained by IEI and IEO, in the paper's words.
-use Rattle.std.specs.Prelude.{ℕ, ◌+◌, Bool, true, false, cond, ◌&&◌, List, [], ◌∷◌, map, length, ltb, leb}
+use Rattle.std.specs.Prelude.{ℕ, ◌+◌, Bool, true, false, cond, ◌&&◌, List, [], ◌∷◌, Option, Some, None, Result, Ok, Err, map, length, ltb, leb}
 use Rattle.events.specs.declared.Event.TheVariants.{Acknowledge}
 use Rattle.events.specs.declared.Answer.{Answer}
 use Rattle.events.specs.declared.Answer.TheVariants.{Done, Data, Vector, PassedOn, Held}
 use Rattle.events.specs.declared.Refusal.TheVariants.{ImageRule, RowLength}
+use Rattle.events.specs.declared.RefusedAt.{RefusedAt}
 use Rattle.device.specs.declared.Device.{Device}
 use Rattle.device.specs.declared.Stepped.{Stepped}
 use Rattle.device.specs.Whole.{image_rule}
 use Rattle.step.specs.Events.{step_of}
-use Rattle.row.specs.declared.RowAnswer.{RowAnswer}
-use Rattle.row.specs.declared.RowAnswer.TheVariants.{Given, AllPassed, Refused}
+use Rattle.row.specs.declared.Given.{Given}
 
 -- ---- an accepted row
 -- 01: ""passed on" (IEO asserted)": a device's IEO is asserted exactly if it passes on. "An in-service bit alone does not hold back IEO" (theorem ServiceAloneHoldsNothingBack).
@@ -34,15 +34,15 @@ abbrev pub devices_of : List Stepped → List Device
 devices_of = map (λ (s : Stepped). s.device)
 
 -- "The first device that requests gives its vector [..] Where none requests, all pass on": which of those from the k-th on gave which vector
-abbrev pub given_or : Answer → ℕ → RowAnswer → RowAnswer
+abbrev pub given_or : Answer → ℕ → Option Given → Option Given
 given_or Done k later = later
 given_or (Data v) k later = later
-given_or (Vector v) k later = Given k v
+given_or (Vector v) k later = Some (record { index = k; vector = v })
 given_or PassedOn k later = later
 given_or Held k later = later
 
-unfoldable pub given_from : ℕ → List Stepped → RowAnswer
-given_from k [] = AllPassed
+unfoldable pub given_from : ℕ → List Stepped → Option Given
+given_from k [] = None
 given_from k (s ∷ ss) = given_or s.answer k (given_from (k + 1) ss)
 
 -- ---- the refusals
@@ -64,11 +64,11 @@ first_broken (d ∷ ds) = cond (image_rule d) (first_broken ds + 1) 0
 
 -- ---- the whole call
 -- "Refusals: 10 for a row of none or more than eight, checked first; then 3 for the first device that breaks the image rule, with its index."
-unfoldable pub row_answer : List Device → RowAnswer
+unfoldable pub row_answer : List Device → Result (Option Given) RefusedAt
 row_answer ds =
     cond (fitting (length ds))
-    (cond (all_keep ds) (given_from 0 (acknowledged_row ds)) (Refused ImageRule (first_broken ds)))
-    (Refused RowLength 0)
+    (cond (all_keep ds) (Ok (given_from 0 (acknowledged_row ds))) (Err (record { refusal = ImageRule; index = first_broken ds })))
+    (Err (record { refusal = RowLength; index = 0 }))
 
 -- "A refusal leaves the whole row unchanged."
 unfoldable pub row_after : List Device → List Device

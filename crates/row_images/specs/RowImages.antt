@@ -1,14 +1,14 @@
 -- Document 02, 1/13, over bytes: a row of devices as "images one after another", acknowledged together, as the C face has it.
-use Rattle.std.specs.Prelude.{ℕ, zero, suc, ◌+◌, ◌*◌, ◌/◌, ◌%◌, ◌^◌, Bool, cond, ◌&&◌, List, [], ◌∷◌, ◌++◌, eqb, ltb, leb, length, take, drop}
+use Rattle.events.specs.declared.Refusal.{Refusal}
+use Rattle.std.specs.Prelude.{ℕ, zero, suc, ◌+◌, ◌*◌, ◌/◌, ◌%◌, ◌^◌, Bool, cond, ◌&&◌, List, [], ◌∷◌, ◌++◌, Option, Some, None, Result, Ok, Err, eqb, ltb, leb, length, take, drop}
 use Rattle.events.specs.declared.Refusal.TheVariants.{ImageLength, RowLength}
+use Rattle.events.specs.declared.RefusedAt.{RefusedAt}
 use Rattle.device.specs.declared.Device.{Device}
 use Rattle.layout.specs.Layout.{image_bytes, image_of, device_of}
-use Rattle.image.specs.declared.Loaded.{Loaded}
-use Rattle.image.specs.declared.Loaded.TheVariants.{Accepted, Refused}
 use Rattle.image.specs.Image.{load_of}
-use Rattle.checks.specs.Checks.{returned}
-use Rattle.row.specs.declared.RowAnswer.{RowAnswer}
-use Rattle.row.specs.declared.RowAnswer.TheVariants.{Given, AllPassed, Refused as RowRefused}
+use Rattle.events.specs.Numbers.{returned}
+use Rattle.checks.specs.Checks.{bad_at, result_code}
+use Rattle.row.specs.declared.Given.{Given}
 use Rattle.row.specs.Rows.{row_most, row_answer, row_after}
 
 -- ---- the row
@@ -31,34 +31,53 @@ images_of (d ∷ ds) = image_of d ++ images_of ds
 
 -- ---- the refusals
 -- "then 2 and 3 by image, with its index": of the first refused of n images, of which the first has index k
-abbrev pub refused_at : Loaded → ℕ → ℕ → ℕ
-refused_at (Accepted d) k later = later
-refused_at (Refused r) k later = returned r k
+abbrev pub refused_at : Result Device Refusal → ℕ → Result (Unit {0}) RefusedAt → Result (Unit {0}) RefusedAt
+refused_at (Ok d) k later = later
+refused_at (Err r) k later = bad_at r k
 
-unfoldable pub first_refused : ℕ → ℕ → List ℕ → ℕ
-first_refused k zero b = 0
+unfoldable pub first_refused : ℕ → ℕ → List ℕ → Result (Unit {0}) RefusedAt
+first_refused k zero b = Ok tt
 first_refused k (suc n) b = refused_at (load_of (take image_bytes b)) k (first_refused (k + 1) n (drop image_bytes b))
 
 -- "Refuses 10 for a length of 0 or above eight images; then 1 for no multiple of an image; then 2 and 3 by image"
 abbrev pub fitting_bytes : ℕ → Bool
 fitting_bytes n = ltb 0 n && leb n (row_most * image_bytes)
 
-unfoldable pub row_code : List ℕ → ℕ
-row_code b =
+unfoldable pub row_check : List ℕ → Result (Unit {0}) RefusedAt
+row_check b =
     cond (fitting_bytes (length b))
-    (cond (eqb (length b % image_bytes) 0) (first_refused 0 (images b) b) (returned ImageLength 0))
-    (returned RowLength 0)
+    (cond (eqb (length b % image_bytes) 0) (first_refused 0 (images b) b) (bad_at ImageLength 0))
+    (bad_at RowLength 0)
+
+-- as the number that the C call returns of it
+abbrev pub row_code : List ℕ → ℕ
+row_code b = result_code (row_check b)
 
 -- ---- the whole call
 -- "Tells 256 × passed + vector: so many devices at the head passed on, the next one, if any, gave the vector [..]; where none requests, passed is the row's length and the vector 0", of n devices
-abbrev pub told_of : ℕ → RowAnswer → ℕ
-told_of n (Given k v) = 256 * k + v
-told_of n AllPassed = 256 * n
-told_of n (RowRefused r k) = 0
+abbrev pub told_by : ℕ → Option Given → ℕ
+told_by n (Some g) = 256 * g.index + g.vector
+told_by n None = 256 * n
+
+abbrev pub told_of : ℕ → Result (Option Given) RefusedAt → ℕ
+told_of n (Ok g) = told_by n g
+told_of n (Err r) = 0
+
+-- what a call tells that the check lets pass, or its refusal
+abbrev pub told_after : Result (Unit {0}) RefusedAt → ℕ → Result ℕ RefusedAt
+told_after (Ok u) told = Ok told
+told_after (Err r) told = Err r
+
+unfoldable pub row_told : List ℕ → Result ℕ RefusedAt
+row_told b = told_after (row_check b) (told_of (images b) (row_answer (row b)))
 
 -- "the code in the low 32 bits, what it tells in the high 32; a refused call tells 0"
-unfoldable pub row_result : List ℕ → ℕ
-row_result b = cond (eqb (row_code b) 0) (told_of (images b) (row_answer (row b)) * 2 ^ 32) (row_code b)
+abbrev pub as_number : Result ℕ RefusedAt → ℕ
+as_number (Ok told) = told * 2 ^ 32
+as_number (Err r) = returned r.refusal r.index
+
+abbrev pub row_result : List ℕ → ℕ
+row_result b = as_number (row_told b)
 
 -- "A refusal leaves the whole row unchanged."
 unfoldable pub row_images : List ℕ → List ℕ

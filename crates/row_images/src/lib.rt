@@ -3,17 +3,15 @@
 // run of one record: so that the C call has one caller of each step below it (docs/BENCHMARKS.md).
 #![tactic(auto)]
 
-ghost use Rattle.std.specs.Prelude.{◌≡◌, ◌++◌, ◌+◌, ◌*◌, ◌≤◌, length, drop};
-ghost use Rattle.events.specs.Numbers.{class_of, value_of};
-ghost use Rattle.layout.specs.Layout.{image_bytes, device_of};
-ghost use Rattle.image.specs.declared.Loaded.TheVariants.{Accepted};
+ghost use Rattle.std.specs.Prelude.{◌≡◌, ◌%◌, ◌≤◌, length, Ok};
+ghost use Rattle.layout.specs.Layout.{image_bytes, image_of, device_of};
 ghost use Rattle.image.specs.Image.{load_of};
 ghost use Rattle.row.specs.Rows.{row_most, acknowledged_row, given_from, devices_of};
-ghost use Rattle.row_images.specs.RowImages.{row_of, images_of, refused_at, first_refused, row_code, told_of, row_result, row_images};
-ghost use Rattle.row_images.specs.Private.{image_at, acknowledge_record, step_at, put_at};
+ghost use Rattle.row_images.specs.RowImages.{images, row, images_of, refused_at, first_refused, row_check, told_by, row_told, row_images};
+ghost use Rattle.row_images.specs.Private.{acknowledge_record, stepped};
 
 use answer::ANSWER_BYTES;
-use events::{Answer, Refusal};
+use events::{Answer, Refusal, RefusedAt};
 use layout::IMAGE_BYTES;
 use record::RECORD_BYTES;
 use row::ROW_MOST;
@@ -30,59 +28,40 @@ const CLASS: usize = 2;
 
 const VALUE: usize = 3;
 
-// What an image's acknowledge answers: class and value.
-#[derive(Clone, Copy)]
-struct Answered {
-    class: u8,
-    value: u8,
-}
-
 // ---- the check
 
-// 0, or the number of the refusal of the image that starts at this byte.
-fn check_image(images: &[u8], at: usize) -> u32
-    requires { at + image_bytes ≤ length images.now }
-    ensures { result ≡ refused_at (load_of (image_at images.now at)) 0 0 }
+// The refusal of an image.
+fn check_image(image: &[u8; IMAGE_BYTES]) -> Result<(), RefusedAt>
+    ensures { result ≡ refused_at (load_of image.now) 0 (Ok tt) }
 {
-    let end = at + IMAGE_BYTES;
-    let mut copy = [0u8; IMAGE_BYTES];
-    let mut answers = [0u8; ANSWER_BYTES];
-    copy.copy_from_slice(&images[at..end]);
-    run::run(&mut copy, &images[at..at], &mut answers)
+    let mut copy = *image;
+    run::run(&mut copy, &[], &mut [])
 }
 
-// 0, or the code of the first refused of n images.
-fn check_images(images: &[u8], n: usize) -> u32
-    requires within { n * image_bytes ≤ length images.now }
-    requires at_most_a_row { n ≤ row_most }
-    ensures { result ≡ first_refused 0 n images.now }
+// The refusal of a whole row.
+fn check(images: &[u8]) -> Result<(), RefusedAt>
+    ensures { result ≡ row_check images.now }
 {
-    let mut i = 0;
-    while i < n {
-        let c = check_image(images, i * IMAGE_BYTES);
-        if c != 0 {
-            return 256 * (i as u32) + c;
-        }
-        i += 1;
+    if images.is_empty() || ROW_MOST * IMAGE_BYTES < images.len() {
+        return Err(RefusedAt {
+            refusal: Refusal::RowLength,
+            index: 0,
+        });
     }
-    0
-}
-
-// 0, or the refusal of a whole row.
-fn check(images: &[u8]) -> u32
-    ensures { result ≡ row_code images.now }
-{
-    if images.len() == 0 {
-        return events::number_of(Refusal::RowLength) as u32;
+    let (images, rest) = images.as_chunks::<IMAGE_BYTES>();
+    if !rest.is_empty() {
+        return Err(RefusedAt {
+            refusal: Refusal::ImageLength,
+            index: 0,
+        });
     }
-    if ROW_MOST * IMAGE_BYTES < images.len() {
-        return events::number_of(Refusal::RowLength) as u32;
+    for (i, image) in images.iter().enumerate() {
+        check_image(image).map_err(|e| RefusedAt {
+            index: i as u16,
+            ..e
+        })?;
     }
-    if images.len() % IMAGE_BYTES != 0 {
-        return events::number_of(Refusal::ImageLength) as u32;
-    }
-    let n = images.len() / IMAGE_BYTES;
-    check_images(images, n)
+    Ok(())
 }
 
 // ---- the acknowledge
@@ -95,7 +74,7 @@ fn acknowledge_record(iei: bool) -> [u8; RECORD_BYTES]
         RECORD_MARK_0,
         RECORD_MARK_1,
         ACKNOWLEDGE,
-        bits::bit_value(iei, 1),
+        u8::from(iei),
         0,
         0,
         0,
@@ -103,53 +82,47 @@ fn acknowledge_record(iei: bool) -> [u8; RECORD_BYTES]
     ]
 }
 
-// The acknowledge of the image that starts at this byte.
-fn acknowledge_image(images: &mut [u8], at: usize, iei: bool) -> Answered
-    requires within { at + image_bytes ≤ length images.old }
-    requires accepted { load_of (image_at images.old at) ≡ Accepted (device_of (image_at images.old at)) }
-    ensures { (result.class ≡ class_of (step_at images.old at iei).answer) × (result.value ≡ value_of (step_at images.old at iei).answer) × (images.new ≡ put_at images.old at iei) }
+// The acknowledge of an accepted image, so that neither it nor the record is refused. Class 2 is a vector, 3
+// passed on, and any other that an acknowledge answers is held.
+fn acknowledge_image(image: &mut [u8], iei: bool) -> Answer
+    requires { load_of image.old ≡ Ok (device_of image.old) }
+    ensures { (result ≡ (stepped image.old iei).answer) × (image.new ≡ image_of (stepped image.old iei).device) }
 {
-    let end = at + IMAGE_BYTES;
-    let tape = acknowledge_record(iei);
-    let mut answers = [0u8; ANSWER_BYTES];
-    run::run(&mut images[at..end], &tape, &mut answers);
-    Answered {
-        class: answers[CLASS],
-        value: answers[VALUE],
+    let mut answer = [0; ANSWER_BYTES];
+    let _ = run::run(image, &acknowledge_record(iei), &mut answer);
+    match answer[CLASS] {
+        2 => Answer::Vector(answer[VALUE]),
+        3 => Answer::PassedOn,
+        _ => Answer::Held,
     }
 }
 
-// The acknowledge of n checked images, and what it tells. Each is written, whatever it answers.
-fn acknowledge_images(images: &mut [u8], n: usize) -> u32
-    requires within { n * image_bytes ≤ length images.old }
-    requires at_most_a_row { n ≤ row_most }
-    requires all_accepted { first_refused 0 n images.old ≡ 0 }
-    ensures { (result ≡ told_of n (given_from 0 (acknowledged_row (row_of n images.old)))) × (images.new ≡ images_of (devices_of (acknowledged_row (row_of n images.old))) ++ drop (n * image_bytes) images.old) }
+// The acknowledge of checked images, and what it tells. Each is written, whatever it answers; in its place in
+// the whole, as nothing is promised of what a slice ends as after `as_chunks_mut`.
+fn acknowledge_images(bytes: &mut [u8]) -> u32
+    requires even { length bytes.old % image_bytes ≡ 0 }
+    requires at_most_a_row { images bytes.old ≤ row_most }
+    requires accepted { first_refused 0 (images bytes.old) bytes.old ≡ Ok tt }
+    ensures { (result ≡ told_by (images bytes.old) (given_from 0 (acknowledged_row (row bytes.old)))) × (bytes.new ≡ images_of (devices_of (acknowledged_row (row bytes.old)))) }
 {
-    let mut told = 256 * (n as u32);
+    let n = bytes.len() / IMAGE_BYTES;
+    let mut told = 256 * n as u32;
     let mut iei = true;
-    let mut i = 0;
-    while i < n {
-        let a = acknowledge_image(images, i * IMAGE_BYTES, iei);
-        iei = a.class == events::class_of(Answer::PassedOn);
-        if a.class == events::class_of(Answer::Vector(0)) {
-            told = 256 * (i as u32) + a.value as u32;
+    for i in 0..n {
+        let at = i * IMAGE_BYTES;
+        let answer = acknowledge_image(&mut bytes[at..at + IMAGE_BYTES], iei);
+        iei = row::ieo(answer);
+        if let Answer::Vector(vector) = answer {
+            told = 256 * i as u32 + u32::from(vector);
         }
-        i += 1;
     }
     told
 }
 
-// The whole call: checks everything, then acknowledges the row; or returns the code of a refusal and leaves
-// the buffer.
-pub fn acknowledge(images: &mut [u8]) -> u64
-    ensures { (result ≡ row_result images.old) × (images.new ≡ row_images images.old) }
+// The whole call: checks everything, then acknowledges the row; or returns a refusal and leaves the buffer.
+pub fn acknowledge(images: &mut [u8]) -> Result<u32, RefusedAt>
+    ensures { (result ≡ row_told images.old) × (images.new ≡ row_images images.old) }
 {
-    let c = check(images);
-    if c != 0 {
-        return c as u64;
-    }
-    let n = images.len() / IMAGE_BYTES;
-    let told = acknowledge_images(images, n);
-    (told as u64) << 32
+    check(images)?;
+    Ok(acknowledge_images(images))
 }

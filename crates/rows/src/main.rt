@@ -7,9 +7,9 @@ ghost use Rattle.std.specs.Prelude.{◌≡◌};
 ghost use Rattle.rows.specs.Rows.{device_with, given_line, refused_line};
 
 use device::Device;
-use events::{Answer, Refusal};
+use events::{Answer, RefusedAt};
 use interrupts::Interrupts;
-use row::RowAnswer;
+use row::Given;
 use std::io;
 
 // Channel 12, on which the receiver asks, and channel 15, above it.
@@ -21,45 +21,52 @@ const TOP: u16 = 32768;
 fn device(pending: u16, service: u16, vector: u8) -> Device
     ensures { result ≡ device_with pending service vector }
 {
-    let mut d = Device::fresh();
-    let i = Interrupts {
-        enabled: 65535,
-        pending: pending,
-        service: service,
-        mask: 65535,
-        vector: vector,
-    };
-    d.interrupts = i;
-    d
+    Device {
+        interrupts: Interrupts {
+            enabled: 65535,
+            pending,
+            service,
+            mask: 65535,
+            vector,
+        },
+        ..Device::fresh()
+    }
 }
 
 // The hex digits are those of a vector in a line of the replay program.
-fn given_line(k: usize, v: u8) -> [u8; 6]
-    ensures { result ≡ given_line k v }
+fn given_line(g: Given) -> [u8; 6]
+    ensures { result ≡ given_line g }
 {
-    let words = words::middle(Answer::Vector(v), false, 0);
-    [b'G', b'0' + (k % 10) as u8, b' ', words[2], words[3], b'\n']
+    let words = words::middle(Answer::Vector(g.vector), false, 0);
+    [
+        b'G',
+        b'0' + (g.index % 10) as u8,
+        b' ',
+        words[2],
+        words[3],
+        b'\n',
+    ]
 }
 
-fn refused_line(r: Refusal, k: usize) -> [u8; 6]
-    ensures { result ≡ refused_line r k }
+fn refused_line(r: RefusedAt) -> [u8; 6]
+    ensures { result ≡ refused_line r }
 {
-    let n = events::number_of(r);
+    let n = events::number_of(r.refusal);
     [
         b'R',
         b'0' + n / 10,
         b'0' + n % 10,
         b' ',
-        b'0' + (k % 10) as u8,
+        b'0' + (r.index % 10) as u8,
         b'\n',
     ]
 }
 
-fn print(rt: &impl Print, a: RowAnswer) -> io::Result<()> {
-    match a {
-        RowAnswer::Given(k, v) => rt.write_all(&given_line(k, v)),
-        RowAnswer::AllPassed => rt.write_all(b"P\n"),
-        RowAnswer::Refused(r, k) => rt.write_all(&refused_line(r, k)),
+fn print(rt: &impl Print, answer: Result<Option<Given>, RefusedAt>) -> io::Result<()> {
+    match answer {
+        Ok(Some(g)) => rt.write_all(&given_line(g)),
+        Ok(None) => rt.write_all(b"P\n"),
+        Err(r) => rt.write_all(&refused_line(r)),
     }
 }
 
@@ -68,21 +75,11 @@ fn print(rt: &impl Print, a: RowAnswer) -> io::Result<()> {
 fn main(rt: HostRuntime) -> io::Result<()> {
     let serving = device(0, TOP, 0x48);
     let first = device(RECEIVER, 0, 0x50);
-    let quiet = device(0, 0, 0);
-    let last = device(RECEIVER, 0, 0x10);
-    let one = row::acknowledge_four([serving, first, quiet, last]);
-    let answer = one.answer;
-    print(&rt, answer)?;
-    let left = one.row;
-    let two = row::acknowledge_four(left);
-    let answer = two.answer;
-    print(&rt, answer)?;
-    let left = two.row;
-    let three = row::acknowledge_four(left);
-    let answer = three.answer;
-    print(&rt, answer)?;
+    let mut row = [serving, first, device(0, 0, 0), device(RECEIVER, 0, 0x10)];
+    for _ in 0..3 {
+        print(&rt, row::acknowledge(&mut row))?;
+    }
     let broken = device(0, TOP, 0);
-    let four = row::acknowledge_four([serving, first, broken, broken]);
-    let answer = four.answer;
-    print(&rt, answer)
+    let refused = row::acknowledge_four([serving, first, broken, broken]);
+    print(&rt, refused.answer)
 }

@@ -1,15 +1,15 @@
 -- The run's loop: what the records done so far and those left make together is the whole run. Assumes nothing.
+use Rattle.std.specs.Prelude.{Ok}
 use Prim.Native.Nat.{ℕ, ◌+◌, ◌-◌, ◌*◌, ◌≤◌, ◌<◌}
 use mathlib.Core.Path.{◌≡◌, refl, sym, ap, ap₂, ◌∙◌}
 use mathlib.Core.List.{List, [], ◌∷◌, ◌++◌, append_assoc, append-nil}
 use native.Mathlib.Omega.{arith}
 use lib.ListN.{length, take, drop, length-append, length-drop, take-append-drop}
+use borrow.Rule.Slice.PartMut.{put_mid}
 use lib.Seq.{length-take-le, take_at, drop_at, drop-drop}
 use Rattle.device.specs.declared.Device.{Device}
 use Rattle.events.specs.declared.Event.{Event}
 use Rattle.step.specs.Events.{step_of}
-use Rattle.record.specs.declared.Decoded.TheVariants.{Valid}
-use Rattle.checks.specs.declared.Checked.TheVariants.{Fine}
 use Rattle.record.specs.Records.{record_bytes}
 use Rattle.tape.specs.Tapes.{decoded, events}
 use Rattle.checks.specs.Checks.{first_bad}
@@ -18,12 +18,20 @@ use Rattle.run.specs.Runs.{run_of, answers_of}
 use Rattle.tape.proofs.Tapes.{event_valid, events_none}
 use Rattle.checks.proofs.Walk.{check_valid}
 
+-- the buffer with k bytes of it, from byte `at` on, written over
+pub written_over : (at k : ℕ) (ans : List ℕ) {x y : List ℕ} → x ≡ y → put_mid at (at + k - at) ans x ≡ take at ans ++ y ++ drop (at + k) ans
+written_over at k ans {y = y} e =
+    let z : at + k - at ≡ k = omega arith in
+    ap₂ (λ (m : ℕ) (v : List ℕ). take at ans ++ (v ++ drop m (drop at ans))) z e
+    ∙ ap (λ (v : List ℕ). take at ans ++ (y ++ v)) (drop-drop k at ans)
+    ∙ sym (append_assoc (take at ans) y (drop (at + k) ans))
+
 module _ (d : Device) (tape ans₀ : List ℕ) (n : ℕ) where
   -- after i of n records, at a device and with the answers so far
   pub record Going (ans : List ℕ) (at : Device) (i : ℕ) : Type 0 where
     pub within : i ≤ n
     pub long : length ans ≡ length ans₀
-    pub clear : first_bad tape i (n - i) ≡ Fine
+    pub clear : first_bad tape i (n - i) ≡ Ok tt
     pub device : run_of at (events tape i (n - i)) ≡ run_of d (events tape 0 n)
     pub front : take (i * answer_bytes) ans ++ answers_of at (events tape i (n - i)) ≡ answers_of d (events tape 0 n)
     pub rest : drop (i * answer_bytes) ans ≡ drop (i * answer_bytes) ans₀
@@ -31,7 +39,7 @@ module _ (d : Device) (tape ans₀ : List ℕ) (n : ℕ) where
   from_zero : n - 0 ≡ n
   from_zero = omega arith
 
-  pub going_begins : first_bad tape 0 n ≡ Fine → Going ans₀ d 0
+  pub going_begins : first_bad tape 0 n ≡ Ok tt → Going ans₀ d 0
   going_begins e = record {
     within = omega arith;
     long = refl;
@@ -60,7 +68,7 @@ module _ (d : Device) (tape ans₀ : List ℕ) (n : ℕ) where
       left = ap (λ (k : ℕ). drop (k * answer_bytes) ans) (sym all) ∙ g.rest ∙ ap (λ (k : ℕ). drop (k * answer_bytes) ans₀) all
 
   -- one record more
-  module _ (ans : List ℕ) (at : Device) (i : ℕ) (g : Going ans at i) (h : i < n) (e : Event) (p : decoded tape (i * record_bytes) ≡ Valid e) (room : i * answer_bytes + answer_bytes ≤ length ans) where
+  module _ (ans : List ℕ) (at : Device) (i : ℕ) (g : Going ans at i) (h : i < n) (e : Event) (p : decoded tape (i * record_bytes) ≡ Ok e) (room : i * answer_bytes + answer_bytes ≤ length ans) where
     abbrev next : List ℕ
     next = take (i * answer_bytes) ans ++ answer_of (step_of at e) ++ drop (i * answer_bytes + answer_bytes) ans
 

@@ -1,4 +1,5 @@
 -- The whole call: refused, all is as it came; done, the image and the answers are the run's. Assumes nothing.
+use Rattle.std.specs.Prelude.{Result, Ok, Err}
 use Prim.Native.Nat.{ℕ, ◌*◌}
 use mathlib.Core.Path.{◌≡◌, refl, sym, ap, ap₂, ◌∙◌}
 use mathlib.Core.Bool.{false}
@@ -9,48 +10,48 @@ use lib.ListN.{length, drop}
 use borrow.Author.Tests.{eq-eqb, ne_eqb}
 use Rattle.device.specs.declared.Device.{Device}
 use Rattle.events.specs.declared.Refusal.{Refusal}
-use Rattle.image.specs.declared.Loaded.{Loaded}
-use Rattle.image.specs.declared.Loaded.TheVariants.{Accepted, Refused}
 use Rattle.layout.specs.Layout.{image_of}
 use Rattle.image.specs.Image.{load_of, stored_over}
 use Rattle.image.proofs.Loads.{Read, read}
 use Rattle.tape.specs.Tapes.{records, events_of}
-use Rattle.checks.specs.Checks.{returned, tape_result}
+use Rattle.events.specs.declared.RefusedAt.{RefusedAt}
+use Rattle.checks.specs.Checks.{bad_at, checked, result_code}
 use Rattle.answer.specs.Answers.{answer_bytes}
-use Rattle.run.specs.Runs.{run_of, answers_of, after_image, result_of, image_after, answers_after}
+use Rattle.checks.proofs.Checks.{returned_above}
+use Rattle.run.specs.Runs.{run_of, answers_of, after_image, outcome_of, result_of, image_after, answers_after}
 
 module _ (image tape answers : List ℕ) where
-  pub by_image : (r : Refusal) → load_of image ≡ Refused r → result_of image tape answers ≡ returned r 0
-  unfolding result_of
-  by_image r e = ap (λ (l : Loaded). after_image l tape (length answers)) e
+  pub by_image : (r : Refusal) → load_of image ≡ Err r → outcome_of image tape answers ≡ bad_at r 0
+  unfolding outcome_of
+  by_image r e = ap (λ (l : Result Device Refusal). after_image l tape (length answers)) e
 
-  pub by_tape : (d : Device) → load_of image ≡ Accepted d → result_of image tape answers ≡ tape_result tape (length answers)
-  unfolding result_of
-  by_tape d e = ap (λ (l : Loaded). after_image l tape (length answers)) e
+  pub by_tape : (d : Device) → load_of image ≡ Ok d → outcome_of image tape answers ≡ checked tape (length answers)
+  unfolding outcome_of
+  by_tape d e = ap (λ (l : Result Device Refusal). after_image l tape (length answers)) e
 
   -- "Every refusal leaves image [..] and answer buffer unchanged."
-  pub refused : (n : ℕ) → n ≡ result_of image tape answers → (n ≡ 0 → ⊥)
-      → (n ≡ result_of image tape answers) × (image ≡ image_after image tape answers) × (answers ≡ answers_after image tape answers)
+  pub refused : (e : RefusedAt) {o : Result (Unit {0}) RefusedAt} → o ≡ Err e → outcome_of image tape answers ≡ Err e
+      → (o ≡ outcome_of image tape answers) × (image ≡ image_after image tape answers) × (answers ≡ answers_after image tape answers)
   unfolding image_after answers_after
-  refused n e h = (e, rw no refl, rw no refl)
+  refused e p q = (p ∙ sym q, rw no refl, rw no refl)
     where
       no : eqb (result_of image tape answers) 0 ≡ false
-      no = ne_eqb _ _ (λ z. h (e ∙ z))
+      no = ne_eqb _ _ (λ z. returned_above e.refusal e.index (sym (ap result_code q) ∙ z))
 
   -- "Success writes the image and the first 22 × records answer bytes only."
-  pub done : (d : Device) (image' answers' : List ℕ) → load_of image ≡ Accepted d → tape_result tape (length answers) ≡ 0
+  pub done : (d : Device) (image' answers' : List ℕ) → load_of image ≡ Ok d → checked tape (length answers) ≡ Ok tt
       → image' ≡ stored_over (run_of d (events_of tape)) image
       → answers' ≡ answers_of d (events_of tape) ++ drop (records tape * answer_bytes) answers
-      → (0 ≡ result_of image tape answers) × (image' ≡ image_after image tape answers) × (answers' ≡ answers_after image tape answers)
+      → (Ok tt ≡ outcome_of image tape answers) × (image' ≡ image_after image tape answers) × (answers' ≡ answers_after image tape answers)
   unfolding image_after answers_after stored_over
   done d image' answers' e z f g = (
     sym ok,
-    f ∙ rw (eq-eqb _ _ ok, eq-eqb _ _ shown.whole) (ap (λ (x : Device). image_of (run_of x (events_of tape))) shown.is),
-    g ∙ rw (eq-eqb _ _ ok) (ap₂ (λ (x : Device) (k : ℕ). answers_of x (events_of tape) ++ drop k answers) shown.is (mul_comm (records tape) answer_bytes)),
+    f ∙ rw (ok, eq-eqb _ _ shown.whole) (ap (λ (x : Device). image_of (run_of x (events_of tape))) shown.is),
+    g ∙ rw ok (ap₂ (λ (x : Device) (k : ℕ). answers_of x (events_of tape) ++ drop k answers) shown.is (mul_comm (records tape) answer_bytes)),
   )
     where
       shown : Read image d
       shown = read image d e
 
-      ok : result_of image tape answers ≡ 0
+      ok : outcome_of image tape answers ≡ Ok tt
       ok = by_tape d e ∙ z

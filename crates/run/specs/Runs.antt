@@ -1,15 +1,15 @@
 -- Document 01, "Tape and answers": a whole run, and the refusals in their order.
-use Rattle.std.specs.Prelude.{ℕ, ◌*◌, cond, List, [], ◌∷◌, ◌++◌, eqb, length, drop}
+use Rattle.events.specs.declared.Refusal.{Refusal}
+use Rattle.std.specs.Prelude.{Ok, Err, ℕ, ◌*◌, cond, List, [], ◌∷◌, ◌++◌, eqb, length, drop, Result}
 use Rattle.device.specs.declared.Device.{Device}
 use Rattle.events.specs.declared.Event.{Event}
+use Rattle.events.specs.declared.RefusedAt.{RefusedAt}
 use Rattle.step.specs.Events.{step_of}
 use Rattle.layout.specs.Layout.{image_of, device_of}
 use Rattle.image.specs.Image.{load_of}
-use Rattle.image.specs.declared.Loaded.{Loaded}
-use Rattle.image.specs.declared.Loaded.TheVariants.{Accepted, Refused}
 use Rattle.answer.specs.Answers.{answer_bytes, answer_of}
 use Rattle.tape.specs.Tapes.{records, events_of}
-use Rattle.checks.specs.Checks.{returned, tape_result}
+use Rattle.checks.specs.Checks.{bad_at, checked, result_code}
 
 -- ---- events one after the other
 unfoldable pub run_of : Device → List Event → Device
@@ -23,13 +23,17 @@ answers_of d (e ∷ es) = answer_of (step_of d e) ++ answers_of (step_of d e).de
 
 -- ---- the refusals
 -- "Checks run 1 to 4, then 5 to 8 for each record in tape order, then 9."
-abbrev pub after_image : Loaded → List ℕ → ℕ → ℕ
-after_image (Refused r) tape room = returned r 0
-after_image (Accepted d) tape room = tape_result tape room
+abbrev pub after_image : Result Device Refusal → List ℕ → ℕ → Result (Unit {0}) RefusedAt
+after_image (Err r) tape room = bad_at r 0
+after_image (Ok d) tape room = checked tape room
 
--- what the C call returns for an image, a tape and an answer buffer
-unfoldable pub result_of : List ℕ → List ℕ → List ℕ → ℕ
-result_of image tape answers = after_image (load_of image) tape (length answers)
+-- what a call with an image, a tape and an answer buffer comes to
+unfoldable pub outcome_of : List ℕ → List ℕ → List ℕ → Result (Unit {0}) RefusedAt
+outcome_of image tape answers = after_image (load_of image) tape (length answers)
+
+-- and what the C call returns
+abbrev pub result_of : List ℕ → List ℕ → List ℕ → ℕ
+result_of image tape answers = result_code (outcome_of image tape answers)
 
 -- ---- the buffers at exit
 -- "Every refusal leaves image [..] and answer buffer unchanged. Success writes the image and the first 22 × records answer bytes only."

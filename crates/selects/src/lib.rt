@@ -11,60 +11,54 @@ use interrupts::InterruptRegister;
 use lines::LineRegister;
 use timers::TimerRegister;
 
-// What a register select names.
-#[derive(Clone, Copy)]
-pub enum Selected {
-    Known(Register),
-    SerialPort,
-}
-
-fn register_of(rs: u8) -> Selected
+// What a register select names; none is the serial port's.
+#[tactic(auto, unfolding(crate::specs::Selects::register_of))]
+fn register_of(rs: u8) -> Option<Register>
     ensures { result ≡ register_of rs }
 {
     match rs {
-        0 => Selected::Known(Register::OfLines(LineRegister::Gpdr)),
-        1 => Selected::Known(Register::OfLines(LineRegister::Aer)),
-        2 => Selected::Known(Register::OfLines(LineRegister::Ddr)),
-        3 => Selected::Known(Register::OfInterrupts(InterruptRegister::Ier(Half::A))),
-        4 => Selected::Known(Register::OfInterrupts(InterruptRegister::Ier(Half::B))),
-        5 => Selected::Known(Register::OfInterrupts(InterruptRegister::Ipr(Half::A))),
-        6 => Selected::Known(Register::OfInterrupts(InterruptRegister::Ipr(Half::B))),
-        7 => Selected::Known(Register::OfInterrupts(InterruptRegister::Isr(Half::A))),
-        8 => Selected::Known(Register::OfInterrupts(InterruptRegister::Isr(Half::B))),
-        9 => Selected::Known(Register::OfInterrupts(InterruptRegister::Imr(Half::A))),
-        10 => Selected::Known(Register::OfInterrupts(InterruptRegister::Imr(Half::B))),
-        11 => Selected::Known(Register::OfInterrupts(InterruptRegister::Vr)),
-        12 => Selected::Known(Register::OfTimers(TimerRegister::Tacr)),
-        13 => Selected::Known(Register::OfTimers(TimerRegister::Tbcr)),
-        14 => Selected::Known(Register::OfTimers(TimerRegister::Tcdcr)),
-        15 => Selected::Known(Register::OfTimers(TimerRegister::Tadr)),
-        16 => Selected::Known(Register::OfTimers(TimerRegister::Tbdr)),
-        17 => Selected::Known(Register::OfTimers(TimerRegister::Tcdr)),
-        18 => Selected::Known(Register::OfTimers(TimerRegister::Tddr)),
-        _ => Selected::SerialPort,
+        0 => Some(Register::OfLines(LineRegister::Gpdr)),
+        1 => Some(Register::OfLines(LineRegister::Aer)),
+        2 => Some(Register::OfLines(LineRegister::Ddr)),
+        3 => Some(Register::OfInterrupts(InterruptRegister::Ier(Half::A))),
+        4 => Some(Register::OfInterrupts(InterruptRegister::Ier(Half::B))),
+        5 => Some(Register::OfInterrupts(InterruptRegister::Ipr(Half::A))),
+        6 => Some(Register::OfInterrupts(InterruptRegister::Ipr(Half::B))),
+        7 => Some(Register::OfInterrupts(InterruptRegister::Isr(Half::A))),
+        8 => Some(Register::OfInterrupts(InterruptRegister::Isr(Half::B))),
+        9 => Some(Register::OfInterrupts(InterruptRegister::Imr(Half::A))),
+        10 => Some(Register::OfInterrupts(InterruptRegister::Imr(Half::B))),
+        11 => Some(Register::OfInterrupts(InterruptRegister::Vr)),
+        12 => Some(Register::OfTimers(TimerRegister::Tacr)),
+        13 => Some(Register::OfTimers(TimerRegister::Tbcr)),
+        14 => Some(Register::OfTimers(TimerRegister::Tcdcr)),
+        15 => Some(Register::OfTimers(TimerRegister::Tadr)),
+        16 => Some(Register::OfTimers(TimerRegister::Tbdr)),
+        17 => Some(Register::OfTimers(TimerRegister::Tcdr)),
+        18 => Some(Register::OfTimers(TimerRegister::Tddr)),
+        _ => None,
     }
 }
 
-// What a read selects.
-pub fn read_select(rs: u8) -> Selected
+// What a read selects, and below what a write does: two functions, since the definitions are two and will part.
+#[tactic(auto, unfolding(crate::specs::Selects::read_select))]
+pub fn read_select(rs: u8) -> Option<Register>
     ensures { result ≡ read_select rs }
 {
     register_of(rs)
 }
 
 // What a write selects.
-pub fn write_select(rs: u8) -> Selected
+#[tactic(auto, unfolding(crate::specs::Selects::write_select))]
+pub fn write_select(rs: u8) -> Option<Register>
     ensures { result ≡ write_select rs }
 {
     register_of(rs)
 }
 
 // The register of a select that the check has let pass.
-pub fn known(s: Selected) -> Register
+pub fn known(s: Option<Register>) -> Register
     ensures { result ≡ known_of s }
 {
-    match s {
-        Selected::Known(r) => r,
-        Selected::SerialPort => Register::OfLines(LineRegister::Gpdr),
-    }
+    s.unwrap_or(Register::OfLines(LineRegister::Gpdr))
 }

@@ -1,7 +1,7 @@
 // One event of the device, by value: what it does, answers and counts. The rules stand in specs/. An
 // event is begun and then finished, so that each change in which a timer input may take part stands in
 // one place. Every function is total; the entry that refuses is crate lent's.
-#![tactic(auto)]
+#![tactic(auto, unfolding(crate::specs::Events::effect_of, crate::specs::Events::write_step))]
 
 ghost use Rattle.std.specs.Prelude.{◌≡◌};
 ghost use Rattle.events.specs.declared.Event.TheVariants.{Write, Clocks, Acknowledge};
@@ -16,7 +16,8 @@ use lines::{LineRegister, Lines, TimerInput};
 use requests::Reply;
 use timeouts::Timeouts;
 
-// An event begun: up to its signals, which are to become those of these lines, or whole.
+// An event begun: up to its signals, which are to become those of these lines, or whole. Neither way is a failure of
+// the other, so it is no Result.
 #[derive(Clone, Copy)]
 enum Begun {
     Signals(Lines),
@@ -28,17 +29,14 @@ fn whole(s: Stepped) -> Begun
     ensures { result ≡ Begun.Whole s }
 {
     let d = s.device;
-    let l = d.lines;
-    let i = d.interrupts;
-    let t = d.timers;
-    let after = Device {
-        lines: l.written_out(),
-        interrupts: i.written_out(),
-        timers: t,
-    };
-    let mut out = s;
-    out.device = after;
-    Begun::Whole(out)
+    Begun::Whole(Stepped {
+        device: Device {
+            lines: d.lines.written_out(),
+            interrupts: d.interrupts.written_out(),
+            ..d
+        },
+        ..s
+    })
 }
 
 // An event whose whole work is to leave this device.
@@ -66,26 +64,20 @@ fn replied(r: Reply) -> Answer
 fn begin_clocks(d: Device, n: u32) -> Begun
     ensures { finished result d ≡ step_of d (Clocks n) }
 {
-    let l = d.lines;
-    let i = d.interrupts;
-    let t = d.timers;
-    let u = timeouts::clocks(
-        t,
-        signals::input_is_active(l, TimerInput::Tai),
-        signals::input_is_active(l, TimerInput::Tbi),
+    let advanced = timeouts::clocks(
+        d.timers,
+        signals::input_is_active(d.lines, TimerInput::Tai),
+        signals::input_is_active(d.lines, TimerInput::Tbi),
         n,
     );
-    let next = u.timers;
-    let m = u.timeouts;
-    let after = Device {
-        lines: l,
-        interrupts: i.raise(m.channels()),
-        timers: next,
-    };
     whole(Stepped {
-        device: after,
+        device: Device {
+            interrupts: d.interrupts.raise(advanced.timeouts.channels()),
+            timers: advanced.timers,
+            ..d
+        },
         answer: Answer::Done,
-        timeouts: m,
+        timeouts: advanced.timeouts,
     })
 }
 
@@ -93,14 +85,10 @@ fn begin_clocks(d: Device, n: u32) -> Begun
 fn begin_line_write(d: Device, r: LineRegister, v: u8) -> Begun
     ensures { finished result d ≡ write_step (OfLines r) v d }
 {
-    let l = d.lines;
-    let after = l.write(r, v);
-    let mut next = d;
-    next.lines = after;
+    let after = d.lines.write(r, v);
     match r {
-        LineRegister::Gpdr => done_with(next),
         LineRegister::Aer => Begun::Signals(after),
-        LineRegister::Ddr => done_with(next),
+        LineRegister::Gpdr | LineRegister::Ddr => done_with(Device { lines: after, ..d }),
     }
 }
 
@@ -108,19 +96,16 @@ fn begin_line_write(d: Device, r: LineRegister, v: u8) -> Begun
 fn begin_write(d: Device, r: Register, v: u8) -> Begun
     ensures { finished result d ≡ write_step r v d }
 {
-    let i = d.interrupts;
-    let t = d.timers;
-    let mut next = d;
     match r {
         Register::OfLines(q) => begin_line_write(d, q, v),
-        Register::OfInterrupts(q) => {
-            next.interrupts = i.write(q, v);
-            done_with(next)
-        }
-        Register::OfTimers(q) => {
-            next.timers = t.write(q, v);
-            done_with(next)
-        }
+        Register::OfInterrupts(q) => done_with(Device {
+            interrupts: d.interrupts.write(q, v),
+            ..d
+        }),
+        Register::OfTimers(q) => done_with(Device {
+            timers: d.timers.write(q, v),
+            ..d
+        }),
     }
 }
 
@@ -128,15 +113,13 @@ fn begin_write(d: Device, r: Register, v: u8) -> Begun
 fn begin_acknowledge(d: Device, iei: bool) -> Begun
     ensures { finished result d ≡ step_of d (Acknowledge iei) }
 {
-    let i = d.interrupts;
-    let k = requests::acknowledge(i, iei);
-    let reply = k.reply;
-    let after = k.interrupts;
-    let mut next = d;
-    next.interrupts = after;
+    let k = requests::acknowledge(d.interrupts, iei);
     whole(Stepped {
-        device: next,
-        answer: replied(reply),
+        device: Device {
+            interrupts: k.interrupts,
+            ..d
+        },
+        answer: replied(k.reply),
         timeouts: Timeouts::zero(),
     })
 }
@@ -145,8 +128,6 @@ fn begin_acknowledge(d: Device, iei: bool) -> Begun
 fn begin(d: Device, e: Event) -> Begun
     ensures { finished result d ≡ step_of d e }
 {
-    let l = d.lines;
-    let i = d.interrupts;
     match e {
         Event::Reset => done_with(d.reset()),
         Event::Read(r) => whole(Stepped {
@@ -156,14 +137,13 @@ fn begin(d: Device, e: Event) -> Begun
         }),
         Event::Write(r, v) => begin_write(d, r, v),
         Event::Level(k, high) => done_with(d.level(k, high)),
-        Event::Input(k, high) => Begun::Signals(l.with_input(k, high)),
+        Event::Input(k, high) => Begun::Signals(d.lines.with_input(k, high)),
         Event::Clocks(n) => begin_clocks(d, n),
         Event::Acknowledge(iei) => begin_acknowledge(d, iei),
-        Event::Raise(c) => {
-            let mut next = d;
-            next.interrupts = i.raise(channels::set_of(c));
-            done_with(next)
-        }
+        Event::Raise(c) => done_with(Device {
+            interrupts: d.interrupts.raise(channels::set_of(c)),
+            ..d
+        }),
     }
 }
 
@@ -182,8 +162,7 @@ fn finish(d: Device, b: Begun) -> Stepped
 pub fn step(d: Device, e: Event) -> Stepped
     ensures { result ≡ step_of d e }
 {
-    let b = begin(d, e);
-    finish(d, b)
+    finish(d, begin(d, e))
 }
 
 // A write of a register, and an acknowledge: their events.

@@ -1,2 +1,3 @@
 -- The laws of a tape's records.
+pub mod Chunks
 pub mod Tapes

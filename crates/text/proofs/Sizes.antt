@@ -17,20 +17,20 @@ use Rattle.text.proofs.Decimal.{at_most}
 abbrev pub Takes : ℕ → ℕ → Type 0
 Takes n most = (length (decimal n) < most) × (length (spaced (decimal n)) ≤ most) × (length (ended (decimal n)) ≤ most)
 
-takes : (k n : ℕ) → n < 10 ^ suc k → Takes n (suc k + 1)
-takes k n h = let d = at_most k n h in (omega arith, rw length-append (omega arith), rw length-append (omega arith))
+takes : (k n : ℕ) → n < 10 ^ suc k → n < 2 ^ 64 → Takes n (suc k + 1)
+takes k n h w = let d = at_most k n h w in (omega arith, rw length-append (omega arith), rw length-append (omega arith))
 
 pub index_takes : (n : ℕ) → n < 2 ^ 16 → Takes n index_most
-index_takes n h = takes 4 n (omega arith)
+index_takes n h = takes 4 n (omega arith) (omega arith)
 
 pub count_takes : (n : ℕ) → n < 2 ^ 32 → Takes n count_most
-count_takes n h = takes 9 n (omega arith)
+count_takes n h = takes 9 n (omega arith) (omega arith)
 
 -- ---- the parts of a line
 parts_fit : index_most + middle_bytes + counts_most ≤ line_most
 parts_fit = omega arith
 
-middle_length : (a : Answer) (irq : Bool) (o : ℕ) → length (middle_of a irq o) ≡ middle_bytes
+pub middle_length : (a : Answer) (irq : Bool) (o : ℕ) → length (middle_of a irq o) ≡ middle_bytes
 unfolding middle_of hex_byte
 middle_length Done irq o = refl
 middle_length (Data v) irq o = refl
@@ -45,7 +45,7 @@ module _ (n : Timeouts) (a : n.a < 2 ^ 32) (b : n.b < 2 ^ 32) (c : n.c < 2 ^ 32)
       rw (length-append (spaced (decimal n.a)), length-append (spaced (decimal n.b)), length-append (spaced (decimal n.c)))
       (omega (arith, count_takes n.a a, count_takes n.b b, count_takes n.c c, count_takes n.d d))
 
-  -- ---- lines
+  -- ---- lines: "64 bytes hold every line" (D85)
   pub line_fits : (i : ℕ) (o : Answer) (irq : Bool) (outputs : ℕ) → i < 2 ^ 16 → length (line_of i o irq outputs n) ≤ line_most
   unfolding line_of
   line_fits i o irq outputs h =

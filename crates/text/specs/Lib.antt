@@ -1,3 +1,2 @@
 -- The text of the replay program's lines.
 pub mod Lines
-pub mod Private

@@ -4,10 +4,11 @@
 #![tactic(auto)]
 
 ghost use Rattle.std.specs.Prelude.{◌≡◌, [], ◌∷◌, ◌++◌, ◌+◌, ◌≤◌, ◌<◌, length};
+ghost use Rattle.arrayvec.specs.ArrayVec.{array_vec_len};
 ghost use Rattle.text.specs.Lines.{decimal, counts_of, line_of, refused_line, written, written_length, Counts};
-ghost use Rattle.text.specs.Lines.{counts_most};
-ghost use Rattle.text.specs.Private.{Puts};
+ghost use Rattle.text.specs.Lines.{line_most, counts_most};
 
+use arrayvec::ArrayVec;
 use events::Answer;
 use timeouts::Timeouts;
 use words::MIDDLE_BYTES;
@@ -20,79 +21,92 @@ const COUNTS_MOST: usize = 4 * (10 + 1);
 // The bytes of a buffer that holds every line: its parts, and two to spare.
 pub const LINE_MOST: usize = INDEX_MOST + MIDDLE_BYTES + COUNTS_MOST + 2;
 
-// Puts text at index `at`, and returns the index after it.
-fn put(out: &mut [u8], at: usize, text: &[u8]) -> usize
-    requires { at + length text.now ≤ length out.old }
-    ensures { Puts text.now out.old at out.new result }
-{
-    let mut i = 0;
-    while i < text.len() {
-        out[at + i] = text[i];
-        i += 1;
-    }
-    at + i
+// A line as it grows. Its parts are put one by one, not by `write!`: that promises its text only where it gives Ok,
+// no contract of the library says when it does, and a line is never refused.
+type Text = ArrayVec<u8, LINE_MOST>;
+
+// What the line of a record tells.
+#[derive(Clone, Copy)]
+pub struct Line {
+    pub index: u16,
+    pub answer: Answer,
+    pub irq: bool,
+    pub outputs: u8,
+    pub timeouts: Timeouts,
 }
 
-// Puts n in decimal at index `at`, and returns the index after it.
-fn put_decimal(out: &mut [u8], at: usize, n: u32) -> usize
-    requires { at + length (decimal n) ≤ length out.old }
-    ensures { Puts (decimal n) out.old at out.new result }
+// Adds text, for which there is room.
+fn put(line: &mut Text, text: &[u8])
+    requires { array_vec_len line.old + length text.now ≤ line_most }
+    ensures items { line.new.items ≡ line.old.items ++ text.now }
+    ensures len { array_vec_len line.new ≡ array_vec_len line.old + length text.now }
 {
-    if n < 10 {
-        out[at] = b'0' + n as u8;
-        return at + 1;
-    }
-    let next = put_decimal(out, at, n / 10);
-    out[next] = b'0' + (n % 10) as u8;
-    next + 1
+    line.try_extend_from_slice(text).unwrap()
 }
 
-// Puts n in decimal and the byte after it.
-fn put_number(out: &mut [u8], at: usize, n: u32, after: u8) -> usize
-    requires { at + length (decimal n) < length out.old }
-    ensures { Puts (decimal n ++ (after ∷ [])) out.old at out.new result }
+// Adds n in decimal and the byte after it.
+fn put_number(line: &mut Text, n: u32, after: u8)
+    requires { array_vec_len line.old + length (decimal n) < line_most }
+    ensures items { line.new.items ≡ line.old.items ++ (decimal n ++ (after ∷ [])) }
+    ensures len { array_vec_len line.new ≡ array_vec_len line.old + length (decimal n) + 1 }
 {
-    let next = put_decimal(out, at, n);
-    out[next] = after;
-    next + 1
+    put(line, itoa::Buffer::new().format(n).as_bytes());
+    line.push(after);
 }
 
-// Puts the four counts, A to D, and ends the line.
-fn put_counts(out: &mut [u8], at: usize, n: Timeouts) -> usize
-    requires { at + counts_most ≤ length out.old }
-    ensures { Puts (counts_of n) out.old at out.new result }
+// Adds the four counts, A to D, and the end of the line.
+fn put_counts(line: &mut Text, n: Timeouts)
+    requires { array_vec_len line.old + counts_most ≤ line_most }
+    ensures { line.new.items ≡ line.old.items ++ counts_of n }
 {
-    let to_b = put_number(out, at, n.a, b' ');
-    let to_c = put_number(out, to_b, n.b, b' ');
-    let to_d = put_number(out, to_c, n.c, b' ');
-    put_number(out, to_d, n.d, b'\n')
+    put_number(line, n.a, b' ');
+    put_number(line, n.b, b' ');
+    put_number(line, n.c, b' ');
+    put_number(line, n.d, b'\n');
 }
 
-// Writes the line of a record, and returns its length.
-pub fn line(out: &mut [u8], index: u16, a: Answer, irq: bool, outputs: u8, n: Timeouts) -> usize
-    ensures value { result ≡ written_length (line_of index a irq outputs n) out.old }
-    ensures out_after { out.new ≡ written (line_of index a irq outputs n) out.old }
+// Writes a line at the start of the buffer, and returns its length.
+fn write(out: &mut [u8], line: &Text) -> usize
+    ensures value { result ≡ written_length line.now.items out.old }
+    ensures out_after { out.new ≡ written line.now.items out.old }
     ensures counts { Counts result out.new }
 {
     if out.len() < LINE_MOST {
         return 0;
     }
-    let words = words::middle(a, irq, outputs);
-    let to_words = put_number(out, 0, index as u32, b' ');
-    let to_counts = put(out, to_words, &words);
-    put_counts(out, to_counts, n)
+    let n = line.len();
+    out[..n].copy_from_slice(line);
+    n
 }
 
-// Writes the line of a refused tape, and returns its length.
+impl Line {
+    // Writes the line of a record, and returns its length.
+    pub fn write(self, out: &mut [u8]) -> usize
+        ensures value { result ≡ written_length (line_of self.index self.answer self.irq self.outputs self.timeouts) out.old }
+        ensures out_after { out.new ≡ written (line_of self.index self.answer self.irq self.outputs self.timeouts) out.old }
+        ensures counts { Counts result out.new }
+    {
+        let mut line = Text::new();
+        put_number(&mut line, self.index.into(), b' ');
+        put(
+            &mut line,
+            &words::middle(self.answer, self.irq, self.outputs),
+        );
+        put_counts(&mut line, self.timeouts);
+        write(out, &line)
+    }
+}
+
+// Writes the line of a refused tape, and returns its length. It takes any number, a refusal's or not: it asks
+// nothing of it.
 pub fn refused(out: &mut [u8], number: u8, index: u16) -> usize
     ensures value { result ≡ written_length (refused_line number index) out.old }
     ensures out_after { out.new ≡ written (refused_line number index) out.old }
     ensures counts { Counts result out.new }
 {
-    if out.len() < LINE_MOST {
-        return 0;
-    }
-    let to_number = put(out, 0, b"refused ");
-    let to_index = put_number(out, to_number, number as u32, b' ');
-    put_number(out, to_index, index as u32, b'\n')
+    let mut line = Text::new();
+    put(&mut line, b"refused ");
+    put_number(&mut line, number.into(), b' ');
+    put_number(&mut line, index.into(), b'\n');
+    write(out, &line)
 }

@@ -27,22 +27,10 @@ pub struct Advanced {
     pub timeouts: Timeouts,
 }
 
-fn once(b: bool) -> u32
-    ensures { result ≡ cond b 1 0 }
-{
-    if b {
-        return 1;
-    }
-    0
-}
-
 fn pulse_if(b: bool, t: Timer) -> Timer
     ensures { result ≡ cond b (pulsed t) t }
 {
-    if b {
-        return t.pulse();
-    }
-    t
+    if b { t.pulse() } else { t }
 }
 
 impl Timeouts {
@@ -73,33 +61,24 @@ impl Timeouts {
 pub fn clocks(t: Timers, tai: bool, tbi: bool, n: u32) -> Advanced
     ensures { result ≡ clocked_by tai tbi n t }
 {
-    let a = t.a;
-    let b = t.b;
-    let c = t.c;
-    let d = t.d;
-    let of_a = countdown::clocks(a, tai, n);
-    let of_b = countdown::clocks(b, tbi, n);
-    let of_c = countdown::clocks(c, false, n);
-    let of_d = countdown::clocks(d, false, n);
-    let next_a = of_a.timer;
-    let next_b = of_b.timer;
-    let next_c = of_c.timer;
-    let next_d = of_d.timer;
-    let next = Timers {
-        a: next_a,
-        b: next_b,
-        c: next_c,
-        d: next_d,
-    };
-    let n = Timeouts {
-        a: of_a.timeouts,
-        b: of_b.timeouts,
-        c: of_c.timeouts,
-        d: of_d.timeouts,
-    };
+    let Timers { a, b, c, d } = t;
+    let a = countdown::clocks(a, tai, n);
+    let b = countdown::clocks(b, tbi, n);
+    let c = countdown::clocks(c, false, n);
+    let d = countdown::clocks(d, false, n);
     Advanced {
-        timers: next,
-        timeouts: n,
+        timers: Timers {
+            a: a.timer,
+            b: b.timer,
+            c: c.timer,
+            d: d.timer,
+        },
+        timeouts: Timeouts {
+            a: a.timeouts,
+            b: b.timeouts,
+            c: c.timeouts,
+            d: d.timeouts,
+        },
     }
 }
 
@@ -114,24 +93,24 @@ pub fn count(t: Timers, a: bool, b: bool) -> Advanced
             timeouts: Timeouts::zero(),
         };
     }
-    let of_a = t.a;
-    let of_b = t.b;
-    let of_c = t.c;
-    let of_d = t.d;
-    let n = Timeouts {
-        a: once(bits::both(a, of_a.is_due())),
-        b: once(bits::both(b, of_b.is_due())),
-        c: 0,
-        d: 0,
-    };
-    let next = Timers {
-        a: pulse_if(a, of_a),
-        b: pulse_if(b, of_b),
-        c: of_c,
-        d: of_d,
-    };
+    let Timers {
+        a: of_a,
+        b: of_b,
+        c,
+        d,
+    } = t;
     Advanced {
-        timers: next,
-        timeouts: n,
+        timers: Timers {
+            a: pulse_if(a, of_a),
+            b: pulse_if(b, of_b),
+            c,
+            d,
+        },
+        timeouts: Timeouts {
+            a: u32::from(a & of_a.is_due()),
+            b: u32::from(b & of_b.is_due()),
+            c: 0,
+            d: 0,
+        },
     }
 }

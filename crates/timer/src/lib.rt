@@ -1,14 +1,15 @@
 // One timer of the MC68901: its mode, data value (`reload`), main counter, prescaler position and
 // output. The rules stand in specs/Timers.antt, one clock at a time; any number of clocks at once is
-// crate countdown. A method takes the timer and hands back the timer as it then is, written out whole
-// (D87). Every one is total: it asks nothing of its timer.
-#![tactic(auto)]
+// crate countdown. A method takes the timer and hands back the timer as it then is. Every one is total:
+// it asks nothing of its timer.
+#![tactic(auto, unfolding(crate::specs::Timers::delay, crate::specs::Timers::pulse_width, crate::specs::Timers::divisor, crate::specs::Timers::runs, crate::specs::Timers::reloaded, crate::specs::Timers::counted_down, crate::specs::Timers::pulsed, crate::specs::Timers::at_divisor, crate::specs::Timers::clocked, crate::specs::Timers::controlled, crate::specs::Timers::reload_written, crate::specs::Timers::position_rule))]
 
-ghost use Rattle.std.specs.Prelude.{◌≡◌, not, ◌&&◌};
+ghost use Rattle.std.specs.Prelude.{◌≡◌};
 ghost use Rattle.timer.specs.Timers.{delay, divisor, event_count, pulse_width, runs, timeout, pulsed, clocked, controlled, reload_written, reset_timer, fresh_timer, position_rule};
 
 #[derive(Clone, Copy)]
 pub struct Timer {
+    // a number, no enum: a record may hold one that no timer has, and the image rule refuses it (`timer_rule`)
     pub mode: u8,
     pub reload: u8,
     pub counter: u8,
@@ -18,22 +19,11 @@ pub struct Timer {
 
 const DIVISORS: [u8; 8] = [0, 4, 10, 16, 50, 64, 100, 200];
 
-// The divisor of a mode; 0 where it has none.
+// The divisor of a mode; 0 where it has none, as the definition has it: the laws over the divisor reckon with it.
 pub fn divisor_of(mode: u8) -> u8
     ensures { result ≡ divisor mode }
 {
-    let row = (mode % 8) as usize;
-    DIVISORS[row]
-}
-
-// The output, unless it is forced low.
-fn unless(low: bool, output: bool) -> bool
-    ensures { result ≡ not low && output }
-{
-    if low {
-        return false;
-    }
-    output
+    DIVISORS[usize::from(mode % 8)]
 }
 
 impl Timer {
@@ -54,10 +44,9 @@ impl Timer {
     {
         Timer {
             mode: 0,
-            reload: self.reload,
-            counter: self.counter,
             position: 0,
             output: false,
+            ..self
         }
     }
 
@@ -83,10 +72,7 @@ impl Timer {
     pub fn goes(self, active: bool) -> bool
         ensures { result ≡ runs active self }
     {
-        if self.delays() {
-            return true;
-        }
-        self.measures_pulses() && active
+        self.delays() || self.measures_pulses() && active
     }
 
     // Whether its next count pulse is a timeout.
@@ -96,34 +82,23 @@ impl Timer {
         self.counter == 1
     }
 
-    #[tactic(auto, unfolding(crate::specs::Timers::pulsed, crate::specs::Timers::reloaded, crate::specs::Timers::counted_down))]
     pub fn pulse(self) -> Timer
         ensures { result ≡ pulsed self }
     {
-        if self.counter == 1 {
-            return Timer {
-                mode: self.mode,
-                reload: self.reload,
+        match self.counter {
+            1 => Timer {
                 counter: self.reload,
-                position: self.position,
                 output: !self.output,
-            };
-        }
-        if self.counter == 0 {
-            return Timer {
-                mode: self.mode,
-                reload: self.reload,
+                ..self
+            },
+            0 => Timer {
                 counter: 255,
-                position: self.position,
-                output: self.output,
-            };
-        }
-        Timer {
-            mode: self.mode,
-            reload: self.reload,
-            counter: self.counter - 1,
-            position: self.position,
-            output: self.output,
+                ..self
+            },
+            n => Timer {
+                counter: n - 1,
+                ..self
+            },
         }
     }
 
@@ -134,37 +109,33 @@ impl Timer {
         if !self.goes(active) {
             return self;
         }
-        let d = divisor_of(self.mode) as u32;
-        let next = self.position as u32 + 1;
-        let mut t = self;
-        if d <= next {
-            t.position = 0;
-            return t.pulse();
+        let next = u16::from(self.position) + 1;
+        if u16::from(divisor_of(self.mode)) <= next {
+            return Timer {
+                position: 0,
+                ..self
+            }
+            .pulse();
         }
-        t.position = next as u8;
-        t
+        Timer {
+            position: next as u8,
+            ..self
+        }
     }
 
     // A control write of this mode; `low` forces the output low.
     pub fn control(self, mode: u8, low: bool) -> Timer
         ensures { result ≡ controlled mode low self }
     {
-        let output = unless(low, self.output);
+        let output = !low && self.output;
         if mode == self.mode {
-            return Timer {
-                mode: self.mode,
-                reload: self.reload,
-                counter: self.counter,
-                position: self.position,
-                output: output,
-            };
+            return Timer { output, ..self };
         }
         Timer {
-            mode: mode,
-            reload: self.reload,
-            counter: self.counter,
+            mode,
             position: 0,
-            output: output,
+            output,
+            ..self
         }
     }
 
@@ -174,20 +145,12 @@ impl Timer {
     {
         if self.mode == 0 {
             return Timer {
-                mode: self.mode,
                 reload: v,
                 counter: v,
-                position: self.position,
-                output: self.output,
+                ..self
             };
         }
-        Timer {
-            mode: self.mode,
-            reload: v,
-            counter: self.counter,
-            position: self.position,
-            output: self.output,
-        }
+        Timer { reload: v, ..self }
     }
 
     // Its part of the image rule.

@@ -1,7 +1,7 @@
 // The four timers together, by value: their registers, their outputs, their part of the image rule. The
 // rules stand in specs/Registers.antt; clocks and count pulses are crate timeouts. Every function is
 // total.
-#![tactic(auto)]
+#![tactic(auto, unfolding(channels::specs::Channels::has, crate::specs::Registers::tcdcr_of, crate::specs::Registers::timer_read, crate::specs::Registers::timer_written, crate::specs::Registers::outputs_of, crate::specs::Registers::timer_rule, crate::specs::Registers::timers_rule))]
 
 ghost use Rattle.std.specs.Prelude.{◌≡◌};
 ghost use Rattle.timers.specs.Registers.{tcdcr_of, timer_read, timer_written, reset_timers, fresh_timers, outputs_of, timer_rule, timers_rule};
@@ -36,7 +36,7 @@ const MOST_CD: u8 = 7;
 fn keeps_rule(t: Timer, most: u8) -> bool
     ensures { result ≡ timer_rule most t }
 {
-    bits::both(t.mode <= most, t.keeps_rule())
+    t.mode <= most && t.keeps_rule()
 }
 
 impl Timers {
@@ -54,15 +54,11 @@ impl Timers {
     pub fn reset(self) -> Timers
         ensures { result ≡ reset_timers self }
     {
-        let a = self.a;
-        let b = self.b;
-        let c = self.c;
-        let d = self.d;
         Timers {
-            a: a.reset(),
-            b: b.reset(),
-            c: c.reset(),
-            d: d.reset(),
+            a: self.a.reset(),
+            b: self.b.reset(),
+            c: self.c.reset(),
+            d: self.d.reset(),
         }
     }
 
@@ -90,45 +86,25 @@ impl Timers {
     pub fn write(self, r: TimerRegister, v: u8) -> Timers
         ensures { result ≡ timer_written r v self }
     {
-        let a = self.a;
-        let b = self.b;
-        let c = self.c;
-        let d = self.d;
+        let Timers { a, b, c, d } = self;
         let mut t = self;
         match r {
-            TimerRegister::Tacr => {
-                t.a = a.control(v % 16, v / 16 % 2 == 1);
-                t
-            }
-            TimerRegister::Tbcr => {
-                t.b = b.control(v % 16, v / 16 % 2 == 1);
-                t
-            }
+            TimerRegister::Tacr => t.a = a.control(v % 16, v / 16 % 2 == 1),
+            TimerRegister::Tbcr => t.b = b.control(v % 16, v / 16 % 2 == 1),
             TimerRegister::Tcdcr => {
                 t.c = c.control(v / 16 % 8, false);
                 t.d = d.control(v % 8, false);
-                t
             }
-            TimerRegister::Tadr => {
-                t.a = a.write(v);
-                t
-            }
-            TimerRegister::Tbdr => {
-                t.b = b.write(v);
-                t
-            }
-            TimerRegister::Tcdr => {
-                t.c = c.write(v);
-                t
-            }
-            TimerRegister::Tddr => {
-                t.d = d.write(v);
-                t
-            }
+            TimerRegister::Tadr => t.a = a.write(v),
+            TimerRegister::Tbdr => t.b = b.write(v),
+            TimerRegister::Tcdr => t.c = c.write(v),
+            TimerRegister::Tddr => t.d = d.write(v),
         }
+        t
     }
 
     // The outputs, bit 0 A to bit 3 D.
+    #[tactic(auto, using(bits::proofs::Bits::bit_at_most), unfolding(crate::specs::Registers::outputs_of))]
     pub fn outputs(self) -> u8
         ensures { result ≡ outputs_of self }
     {
@@ -142,12 +118,9 @@ impl Timers {
     pub fn keeps_rule(self) -> bool
         ensures { result ≡ timers_rule self }
     {
-        let a = self.a;
-        let b = self.b;
-        let c = self.c;
-        let d = self.d;
-        let ab = bits::both(keeps_rule(a, MOST_AB), keeps_rule(b, MOST_AB));
-        let cd = bits::both(keeps_rule(c, MOST_CD), keeps_rule(d, MOST_CD));
-        bits::both(ab, cd)
+        keeps_rule(self.a, MOST_AB)
+            & keeps_rule(self.b, MOST_AB)
+            & keeps_rule(self.c, MOST_CD)
+            & keeps_rule(self.d, MOST_CD)
     }
 }

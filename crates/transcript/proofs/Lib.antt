@@ -1,6 +1,5 @@
--- The laws of a line in its place, of an event through the record lent, of a tape's code, of the loop over its records, and of the whole text.
+-- The laws of a line in its place, of how many records a tape has, of the loop over them, of the whole text, and of the sentences on it.
 pub mod Places
-pub mod Lending
 pub mod Codes
 pub mod Printing
 pub mod Texts

@@ -10,10 +10,9 @@ use Rattle.events.specs.declared.Event.{Event}
 use Rattle.device.specs.declared.Device.{Device}
 use Rattle.device.specs.Whole.{image_rule}
 use Rattle.step.specs.Events.{step_of}
-use Rattle.record.specs.declared.Decoded.TheVariants.{Valid}
+use Rattle.std.specs.Prelude.{Ok}
 use Rattle.record.specs.Records.{record_bytes}
 use Rattle.text.specs.Lines.{line_most}
-use Rattle.checks.specs.declared.Checked.TheVariants.{Fine}
 use Rattle.tape.specs.Tapes.{decoded, events}
 use Rattle.checks.specs.Checks.{first_bad}
 use Rattle.tape.proofs.Tapes.{event_valid, events_none}
@@ -33,14 +32,14 @@ module _ (start : Device) (tape out₀ : List ℕ) (n : ℕ) where
     pub rule : image_rule d ≡ true
     pub long : length out ≡ length out₀
     pub room : at ≤ line_most * i
-    pub clear : first_bad tape i (n - i) ≡ Fine
+    pub clear : first_bad tape i (n - i) ≡ Ok tt
     pub front : take at out ++ lines_of i d (events tape i (n - i)) ≡ whole
     pub rest : drop at out ≡ drop at out₀
 
   from_zero : n - 0 ≡ n
   from_zero = omega arith
 
-  pub going_begins : image_rule start ≡ true → first_bad tape 0 n ≡ Fine → Going out₀ start 0 0
+  pub going_begins : image_rule start ≡ true → first_bad tape 0 n ≡ Ok tt → Going out₀ start 0 0
   going_begins f e = record {
     within = omega arith;
     rule = f;
@@ -74,7 +73,7 @@ module _ (start : Device) (tape out₀ : List ℕ) (n : ℕ) where
     text_put = sym (take-append-drop at out) ∙ ap₂ (λ (x y : List ℕ). x ++ y) text_is g.rest
 
   -- one record more
-  module _ (out : List ℕ) (d : Device) (at i : ℕ) (g : Going out d at i) (h : i < n) (few : n ≤ records_most) (fits : enough ≤ length out₀) (e : Event) (p : decoded tape (i * record_bytes) ≡ Valid e) where
+  module _ (out : List ℕ) (d : Device) (at i : ℕ) (g : Going out d at i) (h : i < n) (few : n ≤ records_most) (fits : enough ≤ length out₀) (e : Event) (p : decoded tape (i * record_bytes) ≡ Ok e) where
     abbrev line : List ℕ
     line = step_line i (step_of d e)
 

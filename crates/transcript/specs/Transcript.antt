@@ -1,6 +1,8 @@
 -- Document 01, "The replay program": its whole text for a tape, as bytes, and that text in a buffer.
-use Rattle.std.specs.Prelude.{ℕ, ◌+◌, ◌*◌, ◌/◌, ◌%◌, cond, List, [], ◌∷◌, ◌++◌, eqb, ltb, length, drop}
+use Rattle.std.specs.Prelude.{ℕ, ◌+◌, ◌*◌, ◌/◌, cond, List, [], ◌∷◌, ◌++◌, ltb, length, drop, Result, Ok, Err}
+use Rattle.events.specs.Numbers.{number_of}
 use Rattle.events.specs.declared.Event.{Event}
+use Rattle.events.specs.declared.RefusedAt.{RefusedAt}
 use Rattle.device.specs.declared.Device.{Device}
 use Rattle.device.specs.declared.Stepped.{Stepped}
 use Rattle.device.specs.Whole.{irq_of, shown_outputs}
@@ -9,7 +11,7 @@ use Rattle.record.specs.Records.{record_bytes}
 use Rattle.answer.specs.Answers.{answer_bytes}
 use Rattle.text.specs.Lines.{line_most, line_of, refused_line}
 use Rattle.tape.specs.Tapes.{tape_most, records, events_of}
-use Rattle.checks.specs.Checks.{tape_result}
+use Rattle.checks.specs.Checks.{checked}
 
 -- ---- sizes
 -- the records of the longest tape: 512
@@ -31,16 +33,18 @@ lines_of i d [] = []
 lines_of i d (e ∷ es) = step_line i (step_of d e) ++ lines_of (i + 1) (step_of d e).device es
 
 -- ---- the whole text
--- 0, or 256 × index + number of a refused tape. The answers have all the room they need, so refusal 9 is never given; "input longer than 4,096 bytes is refusal 4".
-unfoldable pub code_of : List ℕ → ℕ
-code_of tape = tape_result tape (answer_bytes * records tape)
+-- what the check finds. The answers have all the room they need, so refusal 9 is never given; "input longer than 4,096 bytes is refusal 4".
+unfoldable pub check_of : List ℕ → Result (Unit {0}) RefusedAt
+check_of tape = checked tape (answer_bytes * records tape)
 
--- "It reads a tape from standard input, starts fresh, and prints one line a record, no header"; "A refused tape prints only `refused N INDEX`"; "An empty input prints nothing." The device that it starts from is the first argument: the replay program's is a fresh one.
+-- "prints one line a record, no header"; "A refused tape prints only `refused N INDEX`"
+abbrev pub text_of : Device → List Event → Result (Unit {0}) RefusedAt → List ℕ
+text_of start es (Ok passed) = lines_of 0 start es
+text_of start es (Err at) = refused_line (number_of at.refusal) at.index
+
+-- "It reads a tape from standard input, starts fresh, and prints one line a record"; "An empty input prints nothing." The device that it starts from is the first argument: the replay program's is a fresh one.
 unfoldable pub transcript_of : Device → List ℕ → List ℕ
-transcript_of start tape =
-    cond (eqb (code_of tape) 0)
-    (lines_of 0 start (events_of tape))
-    (refused_line (code_of tape % 256) (code_of tape / 256))
+transcript_of start tape = text_of start (events_of tape) (check_of tape)
 
 -- ---- the text in a buffer
 -- a text at the start of a buffer, the rest as it was; a buffer that is too short for some transcript stays as it was

@@ -1,25 +1,16 @@
 // The words of a line of the replay program that take a fixed room: class, value, IRQ and outputs, as
-// bytes. The text stands in specs/Words.antt.
+// bytes, not as a `Display`, for the reason that stands at `text::Text`. The text stands in specs/Words.antt.
 #![tactic(auto)]
 
-ghost use Rattle.std.specs.Prelude.{◌≡◌, ◌<◌};
-ghost use Rattle.words.specs.Words.{hex_digit, hex_byte, class_letter, value_text, irq_digit, middle_of};
+ghost use Rattle.std.specs.Prelude.{◌≡◌};
+ghost use Rattle.words.specs.Words.{hex_byte, class_letter, value_text, middle_of};
 
 use events::Answer;
 
 // The bytes of these words, each with its space.
 pub const MIDDLE_BYTES: usize = 12;
 
-// The hex digit of a number below 16.
-fn hex_digit(d: u8) -> u8
-    requires { d < 16 }
-    ensures { result ≡ hex_digit d }
-{
-    if d < 10 {
-        return b'0' + d;
-    }
-    b'A' - 10 + d
-}
+const HEX_DIGITS: [u8; 16] = *b"0123456789ABCDEF";
 
 fn class_letter(a: Answer) -> u8
     ensures { result ≡ class_letter a }
@@ -37,46 +28,33 @@ fn class_letter(a: Answer) -> u8
 fn hex_byte(v: u8) -> [u8; 2]
     ensures { result ≡ hex_byte v }
 {
-    let high = hex_digit(v / 16);
-    let low = hex_digit(v % 16);
-    [high, low]
+    [
+        HEX_DIGITS[usize::from(v / 16)],
+        HEX_DIGITS[usize::from(v % 16)],
+    ]
 }
 
 fn value_text(a: Answer) -> [u8; 2]
     ensures { result ≡ value_text a }
 {
     match a {
-        Answer::Done => [b'-', b'-'],
-        Answer::Data(v) => hex_byte(v),
-        Answer::Vector(v) => hex_byte(v),
-        Answer::PassedOn => [b'-', b'-'],
-        Answer::Held => [b'-', b'-'],
+        Answer::Data(v) | Answer::Vector(v) => hex_byte(v),
+        Answer::Done | Answer::PassedOn | Answer::Held => *b"--",
     }
-}
-
-fn irq_digit(irq: bool) -> u8
-    ensures { result ≡ irq_digit irq }
-{
-    if irq {
-        return b'1';
-    }
-    b'0'
 }
 
 // Class, value, IRQ and outputs, with a space after each.
 pub fn middle(a: Answer, irq: bool, outputs: u8) -> [u8; MIDDLE_BYTES]
     ensures { result ≡ middle_of a irq outputs }
 {
-    let class = class_letter(a);
-    let value = value_text(a);
-    let irq = irq_digit(irq);
+    let [high, low] = value_text(a);
     [
-        class,
+        class_letter(a),
         b' ',
-        value[0],
-        value[1],
+        high,
+        low,
         b' ',
-        irq,
+        b'0' + u8::from(irq),
         b' ',
         b'0' + outputs % 2,
         b'0' + outputs / 2 % 2,

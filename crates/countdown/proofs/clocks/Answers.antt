@@ -6,16 +6,18 @@ use Rattle.timer.specs.Timers.{clocks, timeouts}
 use mathlib.Core.Path.{refl, ap, ◌∙◌, sym}
 use native.Mathlib.Omega.{arith}
 use Rattle.countdown.proofs.clocks.Goals as goal
+use Rattle.countdown.proofs.clocks.Goals.{then-n-eq0-via-then-n-eq0, then-n-eq0-via-else-n-eq0+then-not-goes}
 
 pub returns-then-n-eq0 : goal.returns-then-n-eq0
 unfolding clocks timeouts
-returns-then-n-eq0 c = rw c.if-n-eq0.true (refl, refl)
-
-pub returns-then-not-goes : goal.returns-then-not-goes
-returns-then-not-goes c =
+returns-then-n-eq0 c =
     let a = c.args in
-    let g = sym c.goes.ensures ∙ c.if-not-goes.true in
-    (sym (idle_clocks a.active a.n a.t g), sym (idle_timeouts a.active a.n a.t g))
+    elim c.then-n-eq0.branch [
+      | then-n-eq0-via-then-n-eq0 w ↦ rw w.if-n-eq0.true (refl, refl)
+      | then-n-eq0-via-else-n-eq0+then-not-goes w ↦
+          let g = sym w.goes.ensures ∙ w.if-not-goes.true in
+          (sym (idle_clocks a.active a.n a.t g), sym (idle_timeouts a.active a.n a.t g))
+    ]
 
 pub go_along-a-requires : goal.go_along-a-requires
 go_along-a-requires c = let a = c.args in omega (arith, running_divisor a.active a.t (sym c.goes.ensures ∙ c.if-not-goes.false))

@@ -1,10 +1,7 @@
--- `requests::search` meets its contract. The loop's invariant: no channel from c up requests, so that the highest is
--- the highest below c. The measure is c. Assumes nothing.
-use Prim.Native.Nat.{◌-◌}
+-- `requests::search` meets its contract. Assumes nothing.
+use Rattle.std.proofs.Common.{◌≡◌, ◌-◌, refl, sym, ◌∙◌, arith}
 use Rattle.requests.proofs.Requests.{nobody, asks_request, walk_found, walk_on}
 use Rattle.requests.specs.Requests.{highest_below, highest}
-use mathlib.Core.Path.{◌≡◌, refl, sym, ◌∙◌}
-use native.Mathlib.Omega.{arith}
 use Rattle.requests.proofs.search.Goals as goal
 
 pub returns-then-wanted-eq0 : goal.returns-then-wanted-eq0
@@ -13,23 +10,14 @@ returns-then-wanted-eq0 c = λ i e f. sym (nobody i 16 (e ∙ c.if-wanted-eq0.tr
 
 pub loop-c-init : goal.loop-c-init
 unfolding highest
-loop-c-init c = (omega arith, λ i e f. refl)
-
-pub overflow_sub-c : goal.overflow_sub-c
-overflow_sub-c c = omega arith
-
-pub asks-requires : goal.asks-requires
-asks-requires c = omega arith
+loop-c-init c = λ i e f. refl
 
 pub returns-then-asks : goal.returns-then-asks
-returns-then-asks c = λ i e f. sym (walk_found i c.loop-c.c (omega arith) (sym (asks_request i c.args.wanted c.args.service (c.loop-c.c - 1) e f) ∙ sym c.asks.ensures ∙ c.if-asks.true)) ∙ c.loop-c.invariant.1 i e f
-
-pub loop-c-smaller : goal.loop-c-smaller
-loop-c-smaller c = omega arith
+returns-then-asks c = λ i e f. sym (walk_found i c.loop-c.c (omega arith) (sym (asks_request i c.args.wanted c.args.service (c.loop-c.c - 1) e f) ∙ sym c.asks.ensures ∙ c.if-asks.true)) ∙ c.loop-c.invariant i e f
 
 pub loop-c-preserved : goal.loop-c-preserved
-loop-c-preserved c = (omega arith, λ i e f. sym (walk_on i c.loop-c.c (omega arith) (sym (asks_request i c.args.wanted c.args.service (c.loop-c.c - 1) e f) ∙ sym c.asks.ensures ∙ c.if-asks.false)) ∙ c.loop-c.invariant.1 i e f)
+loop-c-preserved c = λ i e f. sym (walk_on i c.loop-c.c (omega arith) (sym (asks_request i c.args.wanted c.args.service (c.loop-c.c - 1) e f) ∙ sym c.asks.ensures ∙ c.if-asks.false)) ∙ c.loop-c.invariant i e f
 
 pub returns : goal.returns
 unfolding highest_below
-returns c = λ i e f. let z : c.loop-c.c ≡ 0 = omega arith in rw z at (c.loop-c.invariant.1 i e f)
+returns c = λ i e f. let z : c.loop-c.c ≡ 0 = omega arith in rw z at (c.loop-c.invariant i e f)

@@ -1,17 +1,44 @@
--- `row::acknowledge` meets its contract: the first scan is good, and each turn leaves a good one, with less to go. Assumes nothing.
-use Rattle.std.proofs.Common.{refl, sym, ◌∙◌, subst}
-use lib.ListN.{length-set}
-use Rattle.device.specs.Whole.{fresh_device}
-use Rattle.row.proofs.Going.{Good, Next, begins, steps}
+-- `row::acknowledge` meets its contract: one loop checks the row, one acknowledges it. Assumes nothing.
+use Rattle.std.proofs.Common.{ℕ, ◌≡◌, ◌≤◌, ◌<◌, ◌⊎◌, Bool, true, false, eqb, sym, length, arith, ◌∙◌}
+use Rattle.std.proofs.lemmas.Bool.Decides.{nat_tests}
+use Rattle.row.specs.Rows.{fitting}
+use Rattle.row.proofs.Going.{checked_more, broken, checked_all, along_more, given_still, along_all, unfit, ruled_out, done}
 use Rattle.row.proofs.acknowledge.Goals as goal
+use Rattle.row.proofs.acknowledge.Goals.{in-Vector, in_default}
 
-pub loop-s-init : goal.loop-s-init
-loop-s-init c = (refl, subst (λ s. Good c.args.row.now c.args.row.now s) (sym c.begin-s.ensures) (begins c.args.row.now))
+-- ---- the length
+fits : (n : ℕ) → eqb n 0 ≡ false → n ≤ 8 → fitting n ≡ true
+fits n e l = grind (arith, nat_tests)
 
-pub loop-s-preserved : goal.loop-s-preserved
-unfolding fresh_device
-loop-s-preserved c =
-    let l = c.loop-s in
-    let i = l.invariant in
-    let next = subst (λ t. Next c.args.row.now l.row l.s t) (sym c.turn-t.ensures) (steps c.args.row.now l.row l.s c.loop-s-test.true i.0 (i.1.0 c.loop-s-test.true)) in
-    (length-set l.row l.s.at c.turn-t.result.device ∙ i.0, next.0)
+unfits : (n : ℕ) (none : Bool) → none ≡ eqb n 0 → (none ≡ true) ⊎ ((none ≡ false) × (8 < n)) → fitting n ≡ false
+unfits n none e h = grind (arith, nat_tests)
+
+pub loop-i-preserved : goal.loop-i-preserved
+loop-i-preserved c = checked_more c.args.row.now c.loop-i.i c.loop-i.invariant _ c.loop-i-test.true (sym c.if-not-keeps_rule.ensures)
+
+pub loop-i-2-preserved : goal.loop-i-2-preserved
+loop-i-2-preserved c =
+    let r = c.loop-i-2 in
+    let k = c.acknowledge-k in
+    let l = c.loop-i-2-test.true in
+    elim c.match-k.branch [
+      | in-Vector w ↦ rw (c.ieo-iei.ensures) (along_more _ r.row r.iei r.given r.i r.invariant _ _ _ (omega arith) k.ensures (rw w.in-Vector.is (w.given-is ∙ w.or-given.ensures)))
+      | in_default w ↦ rw (c.ieo-iei.ensures) (along_more _ r.row r.iei r.given r.i r.invariant _ _ _ (omega arith) k.ensures (w.given-is ∙ given_still _ _ _ w.in_default.not-Vector))
+    ]
+
+pub returns : goal.returns
+returns c =
+    let r = c.loop-i-2 in
+    let l : length r.row ≤ r.i = omega arith in
+    let a = along_all _ r.row r.iei r.given r.i r.invariant l in
+    let k = checked_all c.args.row.now c.loop-i.i c.loop-i.invariant c.loop-i-test.false in
+    let d = done c.args.row.now (fits (length c.args.row.now) (sym c.if-is_empty.ensures) (omega arith)) k in
+    rw (a.0, a.1) d
+
+pub returns-then-is_empty : goal.returns-then-is_empty
+returns-then-is_empty c = unfit c.args.row.now (unfits (length c.args.row.now) c.is_empty.result c.is_empty.ensures c.then-is_empty.either)
+
+pub returns-then-not-keeps_rule : goal.returns-then-not-keeps_rule
+returns-then-not-keeps_rule c =
+    let b = broken c.args.row.now c.loop-i.i c.loop-i.invariant _ c.loop-i-test.true (sym c.if-not-keeps_rule.ensures) in
+    rw b.1 at (ruled_out c.args.row.now (fits (length c.args.row.now) (sym c.if-is_empty.ensures) (omega arith)) b.0)

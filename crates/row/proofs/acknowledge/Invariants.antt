@@ -1,10 +1,9 @@
--- The loop of `row::acknowledge`: at each turn the row as it stands and the scan are good. The measure is what the scan has left.
-use Rattle.std.proofs.Common.{◌≡◌, length}
-use Rattle.row.proofs.Going.{Good, left}
+-- `row::acknowledge` meets its contract: one loop checks the row, one acknowledges it. Assumes nothing.
+use Rattle.row.proofs.Going.{Checked, Along}
 use Rattle.row.proofs.acknowledge.Given as goal
 
-abbrev pub invariant-loop-s : goal.invariant-loop-s
-invariant-loop-s l = (length l.row ≡ length l.initial.row) × Good l.initial.row l.row l.s
+abbrev pub invariant-loop-i : goal.invariant-loop-i
+invariant-loop-i l = Checked l.d-items l.i
 
-abbrev pub decreases-loop-s : goal.decreases-loop-s
-decreases-loop-s l = left l.initial.row l.s
+abbrev pub invariant-loop-i-2 : goal.invariant-loop-i-2
+invariant-loop-i-2 l = Along l.initial.row l.row l.iei l.given l.i

@@ -1,20 +1,30 @@
 -- `row_images::acknowledge` meets its contract: refused, nothing is altered; done, the row's images and what is told. Assumes nothing.
+use Rattle.std.proofs.Common.{rules, arith, ◌≡◌, Result, Ok, Err, refl, sym, ◌∙◌}
+use Rattle.events.specs.declared.RefusedAt.{RefusedAt}
 use Rattle.row_images.proofs.Results.{passed, refused, done}
-use mathlib.Core.Path.{sym, ◌∙◌}
-use native.Mathlib.Omega.{arith}
+use Rattle.row_images.specs.RowImages.{row_told, row_images}
 use Rattle.row_images.proofs.acknowledge.Goals as goal
 
-pub returns-then-c-ne0 : goal.returns-then-c-ne0
-returns-then-c-ne0 c = refused c.args.images.now _ c.check-c.ensures c.if-c-ne0.true
+pub returns-in_err-check : goal.returns-in_err-check
+returns-in_err-check c = go c.check.result refl
+  where
+    go : (v : Result (Unit {0}) RefusedAt) → c.check.result ≡ v → (c.from_residual.result ≡ row_told c.args.images.now) × (c.args.images.now ≡ row_images c.args.images.now)
+    go (Ok u) e = absurd (search rules)
+    go (Err r) e =
+        let k : c.from_residual.result ≡ Err r = search rules in
+        let d = refused c.args.images.now r (sym c.check.ensures ∙ e) in
+        (k ∙ d.0, d.1)
 
-pub acknowledge_images-told-requires : goal.acknowledge_images-told-requires
-acknowledge_images-told-requires c =
-    let p = passed c.args.images.now (sym c.check-c.ensures ∙ c.if-c-ne0.false) in
+pub acknowledge_images-requires : goal.acknowledge_images-requires
+acknowledge_images-requires c =
+    let k : c.check.result ≡ Ok tt = search rules in
+    let p = passed c.args.images.now (sym c.check.ensures ∙ k) in
     let s = p.short in
-    record { within = omega arith; at_most_a_row = omega arith; all_accepted = p.clear }
+    record { even = p.even; at_most_a_row = omega arith; accepted = p.clear }
 
 pub returns : goal.returns
 returns c =
-    let e = c.acknowledge_images-told.ensures in
-    let d = done c.args.images.now (sym c.check-c.ensures ∙ c.if-c-ne0.false) _ _ e.0 e.1 in
-    (omega arith ∙ d.0, d.1)
+    let k : c.check.result ≡ Ok tt = search rules in
+    let d = done c.args.images.now (sym c.check.ensures ∙ k) in
+    let e = c.acknowledge_images.ensures in
+    rw (e.0, e.1) d

@@ -1,34 +1,36 @@
 -- `run::run` meets its contract: refused, nothing is altered; done, the run's image and answers. Assumes nothing.
-use Rattle.checks.proofs.Checks.{passed, returned_above}
-use Rattle.checks.specs.Checks.{returned}
-use Rattle.events.specs.Numbers.{number_of}
-use Rattle.events.specs.declared.Refusal.{Refusal}
+use Rattle.std.proofs.Common.{rules, arith, ◌≡◌, Ok, Err, length}
+use Rattle.checks.proofs.Checks.{passed}
+use Rattle.checks.specs.Checks.{bad_at}
 use Rattle.image.specs.Image.{stored_over}
 use Rattle.run.proofs.Results.{by_image, by_tape, refused, done}
-use lib.ListN.{length}
-use mathlib.Core.Path.{◌≡◌, sym, ap, ◌∙◌}
-use native.Mathlib.Omega.{arith}
+use mathlib.Core.Path.{refl, sym, ap, ◌∙◌}
 use Rattle.run.proofs.run.Goals as goal
 
--- a refusal of the image is its number alone
-first : (r : Refusal) → returned r 0 ≡ number_of r
-first r = omega arith
-
-pub returns-then-c-ne0 : goal.returns-then-c-ne0
-returns-then-c-ne0 c = refused c.args.image.now c.args.tape.now c.args.answers.now _ (c.check-c.ensures ∙ sym (by_tape c.args.image.now c.args.tape.now c.args.answers.now _ (sym c.load-l.ensures ∙ c.in-Accepted.is))) c.if-c-ne0.true
-
-pub run_records-after-requires : goal.run_records-after-requires
-run_records-after-requires c =
-    let p = passed c.args.tape.now (length c.args.answers.now) (sym c.check-c.ensures ∙ c.if-c-ne0.false) in
-    record { records_within = omega arith; answers_within = (let r = p.roomy in omega arith); checked = p.fine }
-
-pub returns-in-Refused : goal.returns-in-Refused
-returns-in-Refused c =
+pub returns-in_err-d : goal.returns-in_err-d
+returns-in_err-d c =
     let a = c.args in
-    let r = c.in-Refused.r in
-    refused a.image.now a.tape.now a.answers.now _ (c.number_of.ensures ∙ sym (first r) ∙ sym (by_image a.image.now a.tape.now a.answers.now r (sym c.load-l.ensures ∙ c.in-Refused.is))) (λ z. returned_above r 0 (first r ∙ sym c.number_of.ensures ∙ z))
+    let x = c.in_err-d.field-0.0 in
+    let l : c.load.result ≡ Err x.refusal = search rules in
+    let k : c.from_residual.result ≡ bad_at x.refusal 0 = search rules in
+    refused a.image.now a.tape.now a.answers.now _ k (by_image a.image.now a.tape.now a.answers.now _ (sym c.load.ensures ∙ l))
 
-pub returns-else-c-ne0 : goal.returns-else-c-ne0
-returns-else-c-ne0 c =
-    done c.args.image.now c.args.tape.now c.args.answers.now _ _ _ (sym c.load-l.ensures ∙ c.in-Accepted.is) (sym c.check-c.ensures ∙ c.if-c-ne0.false)
-    (c.store.ensures ∙ ap (λ d. stored_over d c.args.image.now) c.run_records-after.ensures.0) c.run_records-after.ensures.1
+pub returns-in_err-check : goal.returns-in_err-check
+returns-in_err-check c =
+    let a = c.args in
+    let l : c.load.result ≡ Ok c.in_ok-d.d = search rules in
+    let k : c.from_residual-in_err-check.result ≡ Err c.in_err-check.field-0.0 = search rules in
+    refused a.image.now a.tape.now a.answers.now _ k (by_tape a.image.now a.tape.now a.answers.now _ (sym c.load.ensures ∙ l) ∙ sym c.check.ensures ∙ c.in_err-check.was)
+
+pub run_records-after-requires-clause-answers_within : goal.run_records-after-requires-clause-answers_within
+run_records-after-requires-clause-answers_within c = let r = (passed c.args.tape.now (length c.args.answers.now) (sym c.check.ensures ∙ c.in_ok-check.was)).roomy in omega arith
+
+pub run_records-after-requires-clause-checked : goal.run_records-after-requires-clause-checked
+run_records-after-requires-clause-checked c = (passed c.args.tape.now (length c.args.answers.now) (sym c.check.ensures ∙ c.in_ok-check.was)).fine
+
+pub returns : goal.returns
+returns c =
+    let a = c.args in
+    let r = c.run_records-after.ensures in
+    let l : c.load.result ≡ Ok c.in_ok-d.d = search rules in
+    done a.image.now a.tape.now a.answers.now _ _ _ (sym c.load.ensures ∙ l) (sym c.check.ensures ∙ c.in_ok-check.was) (c.store.ensures ∙ ap (λ d. stored_over d a.image.now) r.0) r.1

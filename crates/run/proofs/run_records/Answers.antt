@@ -1,68 +1,30 @@
--- `run::run_records` meets its contract. The loop's invariant is `Going`: what is done and what is left make the whole run.
--- The measure is how many records are left. Assumes nothing.
-use Prim.Native.Nat.{ℕ, ◌+◌, ◌*◌, ◌≤◌, ◌<◌}
-use Rattle.answer.specs.Answers.{answer_bytes, answer_of}
+-- `run::run_records` meets its contract. The loop's invariant is `Going`: what is done and what is left make the whole run. Assumes nothing.
+use Rattle.std.proofs.Common.{arith, ◌<◌, ◌*◌, []}
+use Rattle.answer.specs.Answers.{answer_bytes}
 use Rattle.checks.proofs.Walk.{check_fine}
-use Rattle.device.specs.declared.Device.{Device}
-use Rattle.device.specs.declared.Stepped.{Stepped}
-use Rattle.events.specs.declared.Event.{Event}
-use Rattle.record.specs.Records.{record_bytes, raw_at}
-use Rattle.record.specs.Taken.{taken}
-use Rattle.run.proofs.Going.{Going, going_begins, going_on, going_ends}
+use Rattle.record.proofs.Taken.{taken_is_meant}
+use Rattle.record.specs.Records.{raw_of}
+use Rattle.run.proofs.Going.{written_over, going_on, going_ends}
 use Rattle.step.specs.Events.{step_of}
-use Rattle.tape.proofs.Tapes.{taken_valid}
-use lib.ListN.{length, take, drop}
-use mathlib.Core.List.{List, ◌++◌}
-use mathlib.Core.Path.{◌≡◌, ap, ◌∙◌}
-use native.Mathlib.Omega.{arith}
+use Rattle.tape.proofs.Chunks.{means_here}
+use Rattle.tape.specs.Tapes.{records}
+use lib.ListN.{get_or}
+use mathlib.Core.Path.{refl, ap, ◌∙◌}
 use Rattle.run.proofs.run_records.Goals as goal
-
-module _ (d : Device) (tape ans₀ : List ℕ) (n : ℕ) (ans : List ℕ) (at : Device) (i : ℕ) (g : Going d tape ans₀ n ans at i) (h : i < n) where
-  -- the answer of record i lies within the buffer
-  fits : n * answer_bytes ≤ length ans₀ → i * answer_bytes + answer_bytes ≤ length ans
-  fits r = let l = g.long in omega arith
-
-  -- the step of the record's event, answered where it belongs
-  turned : (x : Event) → x ≡ taken (raw_at tape (i * record_bytes)) → i * answer_bytes + answer_bytes ≤ length ans → (s : Stepped) (out : List ℕ) → s ≡ step_of at x
-      → out ≡ take (i * answer_bytes) ans ++ answer_of s ++ drop (i * answer_bytes + answer_bytes) ans → Going d tape ans₀ n out s.device (i + 1)
-  turned x w r s out q f =
-      let k = check_fine tape i n h g.clear in
-      rw (f, q ∙ ap (step_of at) (w ∙ taken_valid tape (i * record_bytes) k.event k.is)) (going_on d tape ans₀ n ans at i g h k.event k.is r)
-
-pub loop-i-init : goal.loop-i-init
-loop-i-init c = going_begins c.args.d c.args.tape.now c.args.answers.now c.args.n c.requires.checked
-
-pub overflow_mul-i : goal.overflow_mul-i
-overflow_mul-i c = omega arith
-
-pub event_at-e-requires : goal.event_at-e-requires
-event_at-e-requires c = omega arith
-
-pub overflow_mul-i-in-loop-i : goal.overflow_mul-i-in-loop-i
-overflow_mul-i-in-loop-i c = omega (arith, c.requires.answers_within, c.well_formed)
-
-pub put_answer-requires : goal.put_answer-requires
-put_answer-requires c =
-    let a = c.args in
-    let l = c.loop-i in
-    fits a.d a.tape.now a.answers.now a.n l.answers l.current l.i l.invariant c.loop-i-test.true c.requires.answers_within
-
-pub overflow_add-i : goal.overflow_add-i
-overflow_add-i c = omega (arith, c.loop-i-test.true, c.well_formed)
-
-pub loop-i-smaller : goal.loop-i-smaller
-loop-i-smaller c = omega (arith, c.loop-i-test.true)
 
 pub loop-i-preserved : goal.loop-i-preserved
 loop-i-preserved c =
-    let a = c.args in
+    let t = c.args.tape.now in
     let l = c.loop-i in
-    let h = c.loop-i-test.true in
-    let s = c.step-s.result in
-    turned a.d a.tape.now a.answers.now a.n l.answers l.current l.i l.invariant h _ c.event_at-e.ensures (fits a.d a.tape.now a.answers.now a.n l.answers l.current l.i l.invariant h c.requires.answers_within) s _ c.step-s.ensures c.put_answer.ensures
+    let at = l.i * answer_bytes in
+    let h : l.i < records t = omega arith in
+    let k = check_fine t l.i (records t) h l.invariant.clear in
+    let m = means_here t l.i [] c.as_chunks.ensures.front h refl in
+    let e = c.step-s.ensures ∙ ap (step_of l.current) (c.event_of-e.ensures ∙ taken_is_meant (raw_of (get_or c.as_chunks.result.0.now l.i [])) k.event (m ∙ k.is)) in
+    let p = written_over at answer_bytes l.answers (c.copy_from_slice.ensures.after ∙ c.bytes_of.ensures) in
+    rw (p, e) (going_on c.args.d t c.args.answers.now (records t) l.answers l.current l.i l.invariant h k.event k.is (omega arith))
 
 pub returns : goal.returns
 returns c =
-    let a = c.args in
     let l = c.loop-i in
-    going_ends a.d a.tape.now a.answers.now a.n l.answers l.current l.i l.invariant c.loop-i-test.false
+    going_ends c.args.d c.args.tape.now c.args.answers.now (records c.args.tape.now) l.answers l.current l.i l.invariant (omega arith)

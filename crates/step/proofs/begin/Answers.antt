@@ -50,4 +50,4 @@ returns-in-Acknowledge c = did c.args.d c.args.e _ c.in-Acknowledge.is c.begin_a
 
 pub returns-in-Raise : goal.returns-in-Raise
 unfolding effect_of raised_by
-returns-in-Raise c = did c.args.d c.args.e _ c.in-Raise.is (ap (λ (b : Begun). finished b c.args.d) c.done_with-in-Raise.ensures ∙ ap (λ i. done (with_interrupts i c.args.d)) (c.raise-next.ensures ∙ ap (λ (s : ℕ). raised s c.args.d.interrupts) (c.set_of.ensures ∙ sym (or_zero_r _))))
+returns-in-Raise c = did c.args.d c.args.e _ c.in-Raise.is (ap (λ (b : Begun). finished b c.args.d) c.done_with-in-Raise.ensures ∙ ap (λ i. done (with_interrupts i c.args.d)) (c.raise.ensures ∙ ap (λ (s : ℕ). raised s c.args.d.interrupts) (c.set_of.ensures ∙ sym (or_zero_r _))))

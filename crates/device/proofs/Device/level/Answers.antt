@@ -16,7 +16,7 @@ returns c =
     let a = c.args in
     let d = a.self in
     let becomes = c.with_level-after.ensures in
-    let modes = ap₂ (λ (x y : Bool). raised_by (lines_below 8 (line_raises (of_inputs x y) d.lines c.with_level-after.result))) c.measures_pulses.ensures c.measures_pulses-2.ensures in
-    let raises = c.line_raises-raised.ensures ∙ modes ∙ ap (λ (l : Lines). raised_by (lines_below 8 (line_raises (measuring d.timers) d.lines l))) becomes ∙ sym (level_raises a.i a.high d) in
-    let interrupts = c.raise-next.ensures ∙ ap (λ (s : ℕ). raised s d.interrupts) raises in
+    let modes = ap₂ (λ (x y : Bool). raised_by (lines_below 8 (line_raises (of_inputs x y) d.lines c.with_level-after.result))) c.measuring.ensures.0 c.measuring.ensures.1 in
+    let raises = c.line_raises.ensures ∙ modes ∙ ap (λ (l : Lines). raised_by (lines_below 8 (line_raises (measuring d.timers) d.lines l))) becomes ∙ sym (level_raises a.i a.high d) in
+    let interrupts = c.raise.ensures ∙ ap (λ (s : ℕ). raised s d.interrupts) raises in
     λ k. record { lines = becomes k; interrupts = interrupts k; timers = sym (level_timers a.i a.high d) k }

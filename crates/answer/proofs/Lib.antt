@@ -1,2 +1,0 @@
--- The law of bytes put one after the other.
-pub mod Stores

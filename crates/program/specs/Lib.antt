@@ -1,0 +1,2 @@
+-- What the replay programs do with their input and output.
+pub mod Programs

@@ -1,2 +1,0 @@
--- What the proofs of matches on numbers share.
-pub mod Numbers

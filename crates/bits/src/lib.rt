@@ -1,5 +1,5 @@
-// Bits and bytes in code: a bit of a byte, a number in four bytes. The bodies are the library's; the contracts say
-// them in the words of specs/. Every function is total.
+// Bits and bytes in code: a bit of a byte, a number in four bytes. The bodies of the last two are the library's; the
+// contracts say them in the words of specs/. Every function is total.
 #![tactic(auto, unfolding(crate::specs::Bytes::number))]
 
 ghost use Rattle.std.specs.Prelude.{◌≡◌, []};

@@ -60,6 +60,7 @@ fn lowest_of(h: Half) -> u8
 pub fn half_of(h: Half, s: u16) -> u8
     ensures { result ≡ half h s }
 {
+    // below 256, where `try_from` would bring an error that can't be
     ((s >> lowest_of(h)) % 256) as u8
 }
 
@@ -68,7 +69,7 @@ pub fn with_half(h: Half, s: u16, v: u8) -> u16
     ensures { result ≡ with_half h s v }
 {
     match h {
-        Half::A => v as u16 * 256 + s % 256,
-        Half::B => s / 256 * 256 + v as u16,
+        Half::A => u16::from(v) * 256 + s % 256,
+        Half::B => s / 256 * 256 + u16::from(v),
     }
 }

@@ -15,7 +15,7 @@ use Rattle.events.specs.declared.RefusedAt.{RefusedAt}
 use Rattle.events.specs.Numbers.{number_of, returned}
 use Rattle.record.specs.Records.{record_bytes}
 use Rattle.tape.specs.Tapes.{tape_most, fitting, records, decoded}
-use Rattle.checks.specs.Checks.{bad_at, first_bad_at, first_bad, after_records, checked, result_code}
+use Rattle.checks.specs.Checks.{bad_at, first_bad_at, first_bad, after_records, checked, result_code, tape_result}
 use Rattle.answer.specs.Answers.{answer_bytes}
 
 -- a refusal's number is not 0
@@ -109,6 +109,10 @@ module _ (tape : List ℕ) (room : ℕ) where
   by_tests true false c f p q r s t = absurd (cc)
   by_tests false b c f p q r s t = absurd (cc)
 
-  pub passed : checked tape room ≡ Ok tt → Passed
+  pub let_through : checked tape room ≡ Ok tt → Passed
   unfolding checked fitting
-  passed e = by_tests (eqb (length tape % record_bytes) 0) (leb (length tape) tape_most) (first_bad tape 0 (records tape)) (leb (answer_bytes * records tape) room) refl refl refl refl e
+  let_through e = by_tests (eqb (length tape % record_bytes) 0) (leb (length tape) tape_most) (first_bad tape 0 (records tape)) (leb (answer_bytes * records tape) room) refl refl refl refl e
+
+  -- and so of one whose code is 0
+  pub passed : tape_result tape room ≡ 0 → Passed
+  passed e = let_through (nothing_refused _ e)

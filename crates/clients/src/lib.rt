@@ -32,7 +32,8 @@ pub struct FreshRun {
     pub run: u32,
 }
 
-// Demand 1: what a run returns is a row of the table of refusals, or 0.
+// Demand 1: what a run returns is a row of the table of refusals, or 0. This and the next are two demands of one
+// call, whose number is the C face's.
 #[tactic(auto, using(crate::proofs::Relied::has_its_row))]
 pub fn run_has_its_row(image: &mut [u8], tape: &[u8], answers: &mut [u8]) -> u32
     ensures { Given image.old tape.now (length answers.old) result }

@@ -1,6 +1,6 @@
 // Any number of clocks of one timer at once, without a loop: its position is a countdown of clocks, its
 // counter one of count pulses. The rules are crate timer's, one clock at a time; the countdown itself is
-// specs/Countdown.antt.
+// specs/Countdown.antt. Each `as` narrows a number proved to fit, where `try_from` would bring an error that can't be.
 #![tactic(auto, unfolding(crate::specs::Countdown::span, crate::specs::Countdown::to_go, crate::specs::Countdown::toggled))]
 
 ghost use Rattle.std.specs.Prelude.{◌≡◌, ◌-◌, ◌≤◌};
@@ -23,7 +23,8 @@ struct Counted {
     left: u32,
 }
 
-// A timer's position after some clocks, and the count pulses that they gave.
+// A timer's position after some clocks, and the count pulses that they gave. The like of `Down` by chance: no rule
+// is common to the two.
 #[derive(Clone, Copy)]
 struct Along {
     pulses: u32,
@@ -39,7 +40,8 @@ struct Down {
 
 // n units of a countdown that has `first` units left and starts anew from `period`, reckoned as if it had
 // set out a period earlier. One that has more than its period left may not have come that far. It divides
-// whatever n is, as `go_along` does: a long span costs what a short one costs.
+// whatever n is, as `go_along` does: a long span costs what a short one costs. A test and a difference: `checked_sub`
+// is no plainer, and costs more (D87).
 fn count(first: u32, period: u32, n: u32) -> Counted
     requires some_left { 1 ≤ first }
     requires some_period { 1 ≤ period }
@@ -68,7 +70,8 @@ fn span_of(v: u8) -> u32
     if v == 0 { 256 } else { u32::from(v) }
 }
 
-// The clocks of a period of d that have gone by at position p; at or past the divisor all but one (D77).
+// The clocks of a period of d that have gone by at position p; at or past the divisor all but one (D77): `min` says
+// that no plainer, and costs more (D87).
 fn gone(d: u32, p: u8) -> u32
     requires { 1 ≤ d }
     ensures { result ≡ d - to_go d p }

@@ -24,7 +24,7 @@ use Rattle.row.specs.declared.Given.{Given}
 use Rattle.events.specs.declared.RefusedAt.{RefusedAt}
 use Rattle.row.specs.Rows.{row_most, row_answer, row_after}
 use Rattle.row_images.specs.RowImages.{row_of, images, row, images_of, refused_at, first_refused, row_check, row_code, told_of, as_number, row_told, told_after, row_result, row_images}
-use Rattle.row_images.proofs.Checks.{let_pass, row_long}
+use Rattle.row_images.proofs.Checks.{let_through, row_long}
 use Rattle.row_images.proofs.Results.{passed, by_images}
 use Rattle.demands.specs.Images.{OfBytes}
 use Rattle.demands.specs.Rows.{EachKeepsTheRule, AcceptedRow}
@@ -94,14 +94,14 @@ each_keeps : (n k : ℕ) (b : List ℕ) → first_refused k n b ≡ Ok tt → Ea
 unfolding row_of first_refused
 each_keeps zero k b e = tt
 each_keeps (suc n) k b e =
-    let f = let_pass (take image_bytes b) k (first_refused (k + 1) n (drop image_bytes b)) e in
+    let f = let_through (take image_bytes b) k (first_refused (k + 1) n (drop image_bytes b)) e in
     (f.ruled, each_keeps n (k + 1) (drop image_bytes b) f.clear)
 
 same_bytes : (n k : ℕ) (b : List ℕ) → OfBytes b → first_refused k n b ≡ Ok tt → images_of (row_of n b) ≡ take (n * image_bytes) b
 unfolding row_of images_of first_refused
 same_bytes zero k b f e = refl
 same_bytes (suc n) k b f e =
-    let p = let_pass (take image_bytes b) k (first_refused (k + 1) n (drop image_bytes b)) e in
+    let p = let_through (take image_bytes b) k (first_refused (k + 1) n (drop image_bytes b)) e in
     ap₂ (λ (x y : List ℕ). x ++ y)
     (save_of_load (take image_bytes b) (device_of (take image_bytes b)) (bytes_taken image_bytes b f) p.is)
     (same_bytes n (k + 1) (drop image_bytes b) (bytes_dropped image_bytes b f) p.clear)
@@ -110,7 +110,7 @@ same_bytes (suc n) k b f e =
 
 pub row_of_images : RowOfImages
 row_of_images b f e =
-    let p = passed b (nothing_refused _ e) in
+    let p = passed b e in
     let some = p.some in
     let short = p.short in
     let even = p.even in

@@ -14,7 +14,7 @@ use events::{Answer, Register};
 use interrupts::Interrupts;
 use lines::{Lines, TimerInput};
 use signals::{Change, Measuring};
-use timeouts::Timeouts;
+use timeouts::{Advanced, Timeouts};
 use timers::Timers;
 
 #[derive(Clone, Copy)]
@@ -117,7 +117,7 @@ impl Device {
             after,
         };
         let raised = change.raises(self.measuring());
-        let counted = timeouts::count(
+        let Advanced { timers, timeouts } = timeouts::count(
             self.timers,
             self.counts(TimerInput::Tai, after),
             self.counts(TimerInput::Tbi, after),
@@ -125,11 +125,11 @@ impl Device {
         Stepped {
             device: Device {
                 lines: after,
-                interrupts: self.interrupts.raise(raised | counted.timeouts.channels()),
-                timers: counted.timers,
+                interrupts: self.interrupts.raise(raised | timeouts.channels()),
+                timers,
             },
             answer: Answer::Done,
-            timeouts: counted.timeouts,
+            timeouts,
         }
     }
 

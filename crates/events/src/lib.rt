@@ -119,11 +119,20 @@ pub fn value_of(a: Answer) -> u8
     }
 }
 
-// The paper's number of a refusal.
+// The paper's number of a refusal, which stands with its case: C and the texts take it.
 pub fn number_of(r: Refusal) -> u8
     ensures { result ≡ number_of r }
 {
     r as u8
+}
+
+// A refusal that has no place.
+impl From<Refusal> for RefusedAt {
+    ghost from_gives = { λ r at. at ≡ record { refusal = r; index = 0 } };
+
+    fn from(refusal: Refusal) -> RefusedAt {
+        RefusedAt { refusal, index: 0 }
+    }
 }
 
 impl RefusedAt {

@@ -1,6 +1,6 @@
 // The interrupt controller's registers: four sets of sixteen channels and the vector register, by value.
 // The rules stand in specs/Interrupts.antt; those of requests and of the acknowledge are crate requests.
-// A method hands back the interrupts as they then are, written out whole (D87). Every function is total.
+// A method hands back the interrupts as they then are. Every function is total.
 #![tactic(auto, unfolding(channels::specs::Channels::has, crate::specs::Interrupts::kept, crate::specs::Interrupts::S, crate::specs::Interrupts::vector_written, crate::specs::Interrupts::interrupt_read, crate::specs::Interrupts::interrupt_written, crate::specs::Interrupts::raised, crate::specs::Interrupts::interrupt_rule))]
 
 ghost use Rattle.std.specs.Prelude.{◌≡◌};
@@ -61,7 +61,7 @@ impl Interrupts {
         }
     }
 
-    // The same interrupts, written out field by field (D87).
+    // The same interrupts as a literal, as of the lines (D87).
     pub fn written_out(self) -> Interrupts
         ensures { result ≡ self }
     {

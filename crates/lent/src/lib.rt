@@ -5,7 +5,7 @@
 ghost use Rattle.std.specs.Prelude.{◌≡◌};
 ghost use Rattle.lent.specs.Handling.{handled_of};
 
-use device::Device;
+use device::{Device, Stepped};
 use events::{Answer, Event, Refusal};
 use timeouts::Timeouts;
 
@@ -41,13 +41,14 @@ pub fn handle(d: Device, e: Event) -> Handled
             outcome: Err(Refusal::Operand),
         };
     }
-    let s = step::step(d, e);
+    let Stepped {
+        device,
+        answer,
+        timeouts,
+    } = step::step(d, e);
     Handled {
-        device: s.device,
-        outcome: Ok(Answered {
-            answer: s.answer,
-            timeouts: s.timeouts,
-        }),
+        device,
+        outcome: Ok(Answered { answer, timeouts }),
     }
 }
 

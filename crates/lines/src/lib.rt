@@ -44,8 +44,8 @@ impl Lines {
         }
     }
 
-    // The same lines, written out field by field: the compiler then holds the fields apart, which a copy
-    // of the whole would tie together in every event (D87).
+    // The same lines as a literal, which only the type itself can have: the compiler then holds the fields apart,
+    // which a copy of the whole would tie together in every event (D87).
     pub fn written_out(self) -> Lines
         ensures { result ≡ self }
     {
@@ -56,10 +56,10 @@ impl Lines {
         ensures { result ≡ reset_lines self }
     {
         Lines {
-            gpdr: 0,
-            aer: 0,
-            ddr: 0,
-            ..self
+            levels: self.levels,
+            tai: self.tai,
+            tbi: self.tbi,
+            ..Lines::fresh()
         }
     }
 

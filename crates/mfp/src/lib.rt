@@ -29,7 +29,7 @@ pub fn mfp_fresh(image: &mut [u8]) -> u32
     ensures { (result ≡ fresh_result image.old) × (image.new ≡ fresh_over image.old) }
 {
     if image.len() != IMAGE_BYTES {
-        return Refusal::ImageLength as u32;
+        return u32::from(events::number_of(Refusal::ImageLength));
     }
     image::store(Device::fresh(), image);
     0

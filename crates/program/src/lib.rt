@@ -1,8 +1,8 @@
 // What the replay programs do: they read a tape from the input, and write the text that a function of crate
-// transcript makes of it. What they say where they can't stands in D94.
+// transcript makes of it. What they say on a failure stands in D94.
 #![tactic(auto)]
 
-ghost use Rattle.std.specs.Prelude.{◌≡◌, IfOk, OnOk, Some};
+ghost use Rattle.std.specs.Prelude.{◌≡◌, IfOk, OnOk, Some, Err};
 ghost use Rattle.std.specs.Process.{exit_status};
 ghost use Rattle.program.specs.Programs.{PrintsTranscript, Replayed, reason, status_of};
 
@@ -39,7 +39,8 @@ pub fn replay<R: Read, W: Write, F: Fn(&[u8], &mut [u8]) -> usize>(
 ) -> Result<(), Failure>
     requires can { F.IsAlwaysCallable print }
     requires prints { PrintsTranscript (F.post print) }
-    ensures { OnOk result (Replayed (R.remaining input.old) (R.remaining input.new) (W.contents output.old) (W.contents output.new)) }
+    ensures replayed { OnOk result (Replayed (R.remaining input.old) (R.remaining input.new) (W.contents output.old) (W.contents output.new)) }
+    ensures unread { result ≡ Err Failure.Input → output.new ≡ output.old }
 {
     let mut tape = [0; TAPE_MOST + 1];
     let n = input::read_full(input, &mut tape).map_err(|_| Failure::Input)?;

@@ -14,7 +14,7 @@ pub const RECORD_BYTES: usize = 8;
 // 4D and 45, low byte first.
 const MARK: u16 = 77 + 256 * 69;
 
-// The input of number a, 0 or 1.
+// The input of number a, 0 or 1. Total, and so no TryFrom: the check has refused any other number.
 pub fn input_of(a: u8) -> TimerInput
     ensures { result ≡ input_of a }
 {
@@ -58,7 +58,8 @@ fn is_marked(bytes: &[u8; RECORD_BYTES]) -> bool
     u16::from_le_bytes([bytes[0], bytes[1]]) == MARK
 }
 
-// Refusal 6, 7 or 8 of a record's kind and operands. Each kind reads what it needs.
+// Refusal 6, 7 or 8 of a record's kind and operands. Each kind reads what it needs; as numbers the kinds read like
+// the paper's list, and an enum of them would be made here and read here alone.
 #[tactic(auto, unfolding(crate::specs::Records::event_of))]
 fn kind_verdict(bytes: &[u8; RECORD_BYTES]) -> Result<(), Refusal>
     ensures { result ≡ verdict_of (event_in (raw_of bytes.now)) }

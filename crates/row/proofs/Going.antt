@@ -1,5 +1,5 @@
 -- The two loops over a row: what the check has shown at device i, and what the acknowledge has made there of the row as it was lent, ys. Assumes nothing.
-use Rattle.std.proofs.Common.{◌≡◌, ℕ, ◌+◌, ◌<◌, ◌≤◌, Bool, true, false, List, ◌++◌, Option, Some, None, Ok, Err, length, get_or, set, take, drop, refl, sym, ◌∙◌, arith, append-nil}
+use Rattle.std.proofs.Common.{◌≡◌, ℕ, ◌+◌, ◌<◌, ◌≤◌, Bool, true, false, cond, List, ◌∷◌, ◌++◌, Option, Some, None, Ok, Err, length, get_or, set, take, drop, refl, sym, ◌∙◌, arith, append-nil}
 use Rattle.std.proofs.lemmas.List.{drop_more, drop_all, take_all, take_more_set, drop-set-lt}
 use lib.Seq.{append_snoc}
 use Rattle.std.specs.Option.{option_or}
@@ -13,6 +13,16 @@ use Rattle.device.specs.Whole.{image_rule}
 use Rattle.step.specs.Events.{step_of}
 use Rattle.row.specs.declared.Given.{Given}
 use Rattle.row.specs.Rows.{ieo, acknowledged_from, acknowledged_row, devices_of, given_or, given_from, fitting, all_keep, first_broken, row_answer, row_after}
+
+-- ---- the definitions, a device at a time
+one_more : (iei : Bool) (d : Device) (ds : List Device)
+    → acknowledged_from iei (d ∷ ds) ≡ step_of d (Acknowledge iei) ∷ acknowledged_from (ieo (step_of d (Acknowledge iei)).answer) ds
+unfolding acknowledged_from
+one_more iei d ds = refl
+
+first_one : (d : Device) (ds : List Device) → first_broken (d ∷ ds) ≡ cond (image_rule d) (first_broken ds + 1) 0
+unfolding first_broken
+first_one d ds = refl
 
 -- ---- the check
 -- what is left to check tells the check of all
@@ -107,3 +117,11 @@ module _ (ys : List Device) where
     pub done : all_keep ys ≡ true → (Ok (given_from 0 (acknowledged_row ys)) ≡ row_answer ys) × (devices_of (acknowledged_row ys) ≡ row_after ys)
     unfolding row_answer row_after
     done k = rw (f, k) (refl, refl)
+
+-- the row's half of it, kept or not, and the answer's half of a row of another length
+rows : (ys : List Device) (r : Bool) → fitting (length ys) ≡ true → all_keep ys ≡ r → cond r (devices_of (acknowledged_row ys)) ys ≡ row_after ys
+rows ys true fit all = (done ys fit all).1
+rows ys false fit all = (ruled_out ys fit all).1
+
+unfit_answer : (ys : List Device) → fitting (length ys) ≡ false → Err (record { refusal = RowLength; index = 0 }) ≡ row_answer ys
+unfit_answer ys fit = (unfit ys fit).0

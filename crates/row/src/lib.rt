@@ -32,15 +32,13 @@ pub fn acknowledge(row: &mut [Device]) -> Result<Option<Given>, RefusedAt>
     ensures { (result ≡ row_answer row.old) × (row.new ≡ row_after row.old) }
 {
     if row.is_empty() || ROW_MOST < row.len() {
-        return Err(RefusedAt {
-            refusal: Refusal::RowLength,
-            index: 0,
-        });
+        return Err(Refusal::RowLength.into());
     }
     for (i, d) in row.iter().enumerate() {
         if !d.keeps_rule() {
             return Err(RefusedAt {
                 refusal: Refusal::ImageRule,
+                // below 8, where `try_from` would bring an error that can't be
                 index: i as u16,
             });
         }

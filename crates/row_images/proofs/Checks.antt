@@ -18,7 +18,8 @@ use Rattle.row.specs.Rows.{all_keep}
 use Rattle.row_images.specs.RowImages.{row_of, refused_at, first_refused}
 use Rattle.std.specs.Simd.{first_chunks}
 use Rattle.tape.proofs.Chunks.{chunk}
-use Rattle.checks.specs.Checks.{bad_at}
+use Rattle.checks.specs.Checks.{bad_at, result_code}
+use Rattle.checks.proofs.Checks.{nothing_refused}
 
 -- ---- one image
 -- an image let pass has been accepted, and no later one is refused
@@ -27,12 +28,16 @@ pub record Fine (image : List ℕ) (later : Result (Unit {0}) RefusedAt) : Type 
   pub ruled : image_rule (device_of image) ≡ true
   pub clear : later ≡ Ok tt
 
-pub let_pass : (image : List ℕ) (i : ℕ) (later : Result (Unit {0}) RefusedAt) → refused_at (load_of image) i later ≡ Ok tt → Fine image later
-let_pass image i later e = go (load_of image) refl e
+pub let_through : (image : List ℕ) (i : ℕ) (later : Result (Unit {0}) RefusedAt) → refused_at (load_of image) i later ≡ Ok tt → Fine image later
+let_through image i later e = go (load_of image) refl e
   where
     go : (l : Result Device Refusal) → load_of image ≡ l → refused_at l i later ≡ Ok tt → Fine image later
     go (Ok d) p q = let r = read image d p in record { is = p ∙ ap Ok r.is; ruled = r.ruled; clear = q }
     go (Err r) p q = absurd (cc)
+
+-- and so where the code is 0
+pub let_pass : (image : List ℕ) (i : ℕ) (later : Result (Unit {0}) RefusedAt) → result_code (refused_at (load_of image) i later) ≡ 0 → Fine image later
+let_pass image i later e = let_through image i later (nothing_refused _ e)
 
 -- of an image alone, and where it stands
 pub fine_here : (l : Result Device Refusal) (i : ℕ) (later : Result (Unit {0}) RefusedAt) → refused_at l 0 (Ok tt) ≡ Ok tt → refused_at l i later ≡ later
@@ -42,6 +47,12 @@ fine_here (Err r) i later e = absurd (cc)
 pub bad_here : (l : Result Device Refusal) (i : ℕ) (later : Result (Unit {0}) RefusedAt) (e : RefusedAt) → refused_at l 0 (Ok tt) ≡ Err e → refused_at l i later ≡ bad_at e.refusal i
 bad_here (Ok d) i later e p = absurd (cc)
 bad_here (Err r) i later e p = let q : record { refusal = r; index = 0 } ≡ e = cc in ap (λ (x : RefusedAt). bad_at x.refusal i) q
+
+-- the code of an image at index i is its own number and the index
+pub bad_code : (l : Result Device Refusal) (i : ℕ) (later : Result (Unit {0}) RefusedAt) → (result_code (refused_at l 0 (Ok tt)) ≡ 0 → ⊥)
+    → 256 * i + result_code (refused_at l 0 (Ok tt)) ≡ result_code (refused_at l i later)
+bad_code (Ok d) i later h = absurd (h refl)
+bad_code (Err r) i later h = omega arith
 
 -- ---- the i-th of n images
 -- the image that starts at byte `at`
@@ -108,5 +119,5 @@ pub kept_by_all : (n k : ℕ) (b : List ℕ) → first_refused k n b ≡ Ok tt �
 unfolding row_of first_refused all_keep
 kept_by_all zero k b e = refl
 kept_by_all (suc n) k b e =
-    let f = let_pass (take image_bytes b) k (first_refused (k + 1) n (drop image_bytes b)) e in
+    let f = let_through (take image_bytes b) k (first_refused (k + 1) n (drop image_bytes b)) e in
     rw f.ruled (kept_by_all n (k + 1) (drop image_bytes b) f.clear)

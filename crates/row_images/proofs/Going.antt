@@ -21,7 +21,7 @@ use Rattle.row.specs.declared.Given.{Given}
 use Rattle.row.specs.Rows.{ieo, acknowledged_from, acknowledged_row, devices_of, given_or, given_from}
 use Rattle.row_images.specs.RowImages.{row_of, images_of, first_refused, told_by}
 use Rattle.row_images.specs.Private.{stepped}
-use Rattle.row_images.proofs.Checks.{Fine, let_pass, image_at, next_place, check_at, row_at, row_none}
+use Rattle.row_images.proofs.Checks.{Fine, let_through, image_at, next_place, check_at, row_at, row_none}
 
 -- ---- what is told
 -- the number of who gave, where all passed on the number told so far
@@ -103,7 +103,7 @@ module _ (b₀ : List ℕ) (n : ℕ) where
       part_is = let k : i * image_bytes + image_bytes - i * image_bytes ≡ image_bytes = omega arith in ap (λ (x : ℕ). take x (drop (i * image_bytes) b)) k ∙ ap (take image_bytes) g.rest
 
       passes : Fine (image_at b₀ (i * image_bytes)) (first_refused (i + 1) (n - (i + 1)) (drop ((i + 1) * image_bytes) b₀))
-      passes = let_pass _ i _ (sym (check_at b₀ i n h) ∙ g.clear)
+      passes = let_through _ i _ (sym (check_at b₀ i n h) ∙ g.clear)
 
       -- it is accepted
       pub accepted : load_of part ≡ Ok (device_of part)

@@ -1,8 +1,8 @@
 -- The whole call: refused, the row is as it came; done, the row's images and what is told. Assumes nothing.
 use Prim.Native.Nat.{ℕ, ◌*◌, ◌%◌, ◌≤◌, ◌<◌}
-use Rattle.std.specs.Prelude.{Ok, Err}
-use mathlib.Core.Path.{◌≡◌, refl}
-use mathlib.Core.Logic.{◌⊎◌}
+use Rattle.std.specs.Prelude.{Result, Ok, Err}
+use mathlib.Core.Path.{◌≡◌, refl, ap, ◌∙◌}
+use mathlib.Core.Logic.{◌⊎◌, inl, inr}
 use mathlib.Core.Bool.{Bool, true, false, cond, ◌&&◌}
 use mathlib.Core.List.{List}
 use native.Mathlib.Omega.{arith}
@@ -11,12 +11,13 @@ use lib.ListN.{length}
 use borrow.Author.Tests.{eq-eqb, ne_eqb, lt-ltb, le-leb, ltb-true, leb-true, eqb-true}
 use Rattle.events.specs.declared.Refusal.TheVariants.{ImageLength, RowLength}
 use Rattle.events.specs.declared.RefusedAt.{RefusedAt}
-use Rattle.checks.specs.Checks.{bad_at}
-use Rattle.checks.proofs.Checks.{returned_above}
+use Rattle.events.specs.Numbers.{returned}
+use Rattle.checks.specs.Checks.{bad_at, result_code}
+use Rattle.checks.proofs.Checks.{returned_above, nothing_refused}
 use Rattle.std.proofs.lemmas.Bool.Decides.{nat_tests}
 use Rattle.layout.specs.Layout.{image_bytes}
 use Rattle.row.specs.Rows.{row_most, acknowledged_row, devices_of, given_from, fitting, all_keep, row_answer, row_after}
-use Rattle.row_images.specs.RowImages.{images, row, images_of, fitting_bytes, first_refused, row_check, told_by, row_told, row_images}
+use Rattle.row_images.specs.RowImages.{images, row, images_of, fitting_bytes, first_refused, row_check, row_code, told_by, row_told, as_number, row_result, row_images}
 use Rattle.row_images.proofs.Checks.{row_long, kept_by_all}
 
 module _ (b : List ℕ) where
@@ -25,7 +26,13 @@ module _ (b : List ℕ) where
   unfolding row_check
   unfit h = let f : fitting_bytes (length b) ≡ false = grind (arith, nat_tests) in rw f refl
 
-  module _ (some : 0 < length b) (short : length b ≤ row_most * image_bytes) where
+  pub empty : length b ≡ 0 → row_code b ≡ returned RowLength 0
+  empty e = ap result_code (unfit (inl e))
+
+  pub too_long : row_most * image_bytes < length b → row_code b ≡ returned RowLength 0
+  too_long h = ap result_code (unfit (inr h))
+
+  module _ (some : length b ≡ 0 → ⊥) (short : length b ≤ row_most * image_bytes) where
     fits_bytes : fitting_bytes (length b) ≡ true
     fits_bytes = grind (arith, nat_tests)
 
@@ -51,15 +58,27 @@ module _ (b : List ℕ) where
   by_tests true false z p q r e = absurd (cc)
   by_tests false y z p q r e = absurd (cc)
 
-  pub passed : row_check b ≡ Ok tt → Passed
+  pub let_through : row_check b ≡ Ok tt → Passed
   unfolding row_check
-  passed e = by_tests (ltb 0 (length b)) (leb (length b) (row_most * image_bytes)) (eqb (length b % image_bytes) 0) refl refl refl e
+  let_through e = by_tests (ltb 0 (length b)) (leb (length b) (row_most * image_bytes)) (eqb (length b % image_bytes) 0) refl refl refl e
+
+  -- and so of one whose code is 0
+  pub passed : row_code b ≡ 0 → Passed
+  passed e = let_through (nothing_refused _ e)
 
   -- ---- the call
   -- "A refusal leaves the whole row unchanged."
-  pub refused : (r : RefusedAt) → row_check b ≡ Err r → (Err r ≡ row_told b) × (b ≡ row_images b)
+  pub all_kept : (r : RefusedAt) → row_check b ≡ Err r → (Err r ≡ row_told b) × (b ≡ row_images b)
   unfolding row_told row_images
-  refused r e = rw (e, ne_eqb _ _ (returned_above r.refusal r.index)) (refl, refl)
+  all_kept r e = rw (e, ne_eqb _ _ (returned_above r.refusal r.index)) (refl, refl)
+
+  -- and so of one whose code is not 0
+  pub refused : (c : ℕ) → c ≡ row_code b → (c ≡ 0 → ⊥) → (c ≡ row_result b) × (b ≡ row_images b)
+  refused c e h = go (row_check b) refl
+    where
+      go : (k : Result (Unit {0}) RefusedAt) → row_check b ≡ k → (c ≡ row_result b) × (b ≡ row_images b)
+      go (Ok u) p = absurd (h (e ∙ ap result_code p))
+      go (Err r) p = let w = all_kept r p in (e ∙ ap result_code p ∙ ap as_number w.0, w.1)
 
   module _ (p : Passed) where
     fits : fitting (length (row b)) ≡ true
@@ -82,4 +101,4 @@ module _ (b : List ℕ) where
 
   pub done : row_check b ≡ Ok tt → (Ok (told_by (images b) (given_from 0 (acknowledged_row (row b)))) ≡ row_told b) × (images_of (devices_of (acknowledged_row (row b))) ≡ row_images b)
   unfolding row_told row_images
-  done e = let p = passed e in rw (e, answer_is p, after_is p) (refl, refl)
+  done e = let p = let_through e in rw (e, answer_is p, after_is p) (refl, refl)

@@ -43,20 +43,15 @@ fn check(images: &[u8]) -> Result<(), RefusedAt>
     ensures { result ≡ row_check images.now }
 {
     if images.is_empty() || ROW_MOST * IMAGE_BYTES < images.len() {
-        return Err(RefusedAt {
-            refusal: Refusal::RowLength,
-            index: 0,
-        });
+        return Err(Refusal::RowLength.into());
     }
     let (images, rest) = images.as_chunks::<IMAGE_BYTES>();
     if !rest.is_empty() {
-        return Err(RefusedAt {
-            refusal: Refusal::ImageLength,
-            index: 0,
-        });
+        return Err(Refusal::ImageLength.into());
     }
     for (i, image) in images.iter().enumerate() {
         check_image(image).map_err(|e| RefusedAt {
+            // below 8, where `try_from` would bring an error that can't be
             index: i as u16,
             ..e
         })?;
@@ -82,8 +77,8 @@ fn acknowledge_record(iei: bool) -> [u8; RECORD_BYTES]
     ]
 }
 
-// The acknowledge of an accepted image, so that neither it nor the record is refused. Class 2 is a vector, 3
-// passed on, and any other that an acknowledge answers is held.
+// The acknowledge of an accepted image, so that neither it nor the record is refused. The classes are the paper's,
+// as patterns: 2 a vector, 3 passed on, any other held; with a wrong one it is not proved.
 fn acknowledge_image(image: &mut [u8], iei: bool) -> Answer
     requires { load_of image.old ≡ Ok (device_of image.old) }
     ensures { (result ≡ (stepped image.old iei).answer) × (image.new ≡ image_of (stepped image.old iei).device) }
@@ -106,6 +101,7 @@ fn acknowledge_images(bytes: &mut [u8]) -> u32
     ensures { (result ≡ told_by (images bytes.old) (given_from 0 (acknowledged_row (row bytes.old)))) × (bytes.new ≡ images_of (devices_of (acknowledged_row (row bytes.old)))) }
 {
     let n = bytes.len() / IMAGE_BYTES;
+    // n and i are at most 8, where `try_from` would bring an error that can't be
     let mut told = 256 * n as u32;
     let mut iei = true;
     for i in 0..n {
@@ -119,7 +115,8 @@ fn acknowledge_images(bytes: &mut [u8]) -> u32
     told
 }
 
-// The whole call: checks everything, then acknowledges the row; or returns a refusal and leaves the buffer.
+// The whole call: checks everything, then acknowledges the row; or returns a refusal and leaves the buffer. What it
+// tells is the C call's number, as `row_told` has it; `row::acknowledge` tells it by types.
 pub fn acknowledge(images: &mut [u8]) -> Result<u32, RefusedAt>
     ensures { (result ≡ row_told images.old) × (images.new ≡ row_images images.old) }
 {

@@ -34,6 +34,7 @@ fn device(pending: u16, service: u16, vector: u8) -> Device
 }
 
 // The hex digits are those of a vector in a line of the replay program.
+// In bytes, as the definition has it; `text::Text` says why not by `write!`. An index is cut to a digit.
 fn given_line(g: Given) -> [u8; 6]
     ensures { result ≡ given_line g }
 {

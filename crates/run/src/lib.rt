@@ -31,14 +31,14 @@ fn run_records(d: Device, tape: &[u8], answers: &mut [u8]) -> Device
     current
 }
 
-// The whole call: checks everything, then runs the tape from the image's device, and writes the answers
-// and the image; or is refused, and leaves both buffers.
+// The whole call, on the C call's three buffers: checks everything, then runs the tape from the image's device, and
+// writes the answers and the image; or is refused, and leaves both.
 pub fn run(image: &mut [u8], tape: &[u8], answers: &mut [u8]) -> Result<(), RefusedAt>
     ensures { (result ≡ outcome_of image.old tape.now answers.old)
         × (image.new ≡ image_after image.old tape.now answers.old)
         × (answers.new ≡ answers_after image.old tape.now answers.old) }
 {
-    let d = image::load(image).map_err(|refusal| RefusedAt { refusal, index: 0 })?;
+    let d = image::load(image)?;
     checks::check(tape, answers.len())?;
     let after = run_records(d, tape, answers);
     image::store(after, image);

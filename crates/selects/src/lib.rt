@@ -11,7 +11,7 @@ use interrupts::InterruptRegister;
 use lines::LineRegister;
 use timers::TimerRegister;
 
-// What a register select names; none is the serial port's.
+// What a register select names; none is the serial port's, which is no error here, and so no TryFrom.
 #[tactic(auto, unfolding(crate::specs::Selects::register_of))]
 fn register_of(rs: u8) -> Option<Register>
     ensures { result ≡ register_of rs }

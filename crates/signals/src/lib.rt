@@ -63,7 +63,7 @@ impl Change {
         !input_is_active(self.before, i) & input_is_active(self.after, i)
     }
 
-    // Whether TAI or TBI ceases to be active.
+    // Whether TAI or TBI ceases to be active: the paper's other word, no case of the one above.
     fn input_ceases(self, i: TimerInput) -> bool
         ensures { result ≡ input_ceases i self.before self.after }
     {

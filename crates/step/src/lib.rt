@@ -13,8 +13,8 @@ ghost use Rattle.step.specs.Private.{finished};
 use device::{Device, Stepped};
 use events::{Answer, Event, Register};
 use lines::{LineRegister, Lines, TimerInput};
-use requests::Reply;
-use timeouts::Timeouts;
+use requests::{Acknowledged, Reply};
+use timeouts::{Advanced, Timeouts};
 
 // An event begun: up to its signals, which are to become those of these lines, or whole. Neither way is a failure of
 // the other, so it is no Result.
@@ -50,6 +50,7 @@ fn done_with(d: Device) -> Begun
     })
 }
 
+// No `From`: requests knows no answers, and events no replies.
 fn replied(r: Reply) -> Answer
     ensures { result ≡ replied r }
 {
@@ -64,7 +65,7 @@ fn replied(r: Reply) -> Answer
 fn begin_clocks(d: Device, n: u32) -> Begun
     ensures { finished result d ≡ step_of d (Clocks n) }
 {
-    let advanced = timeouts::clocks(
+    let Advanced { timers, timeouts } = timeouts::clocks(
         d.timers,
         signals::input_is_active(d.lines, TimerInput::Tai),
         signals::input_is_active(d.lines, TimerInput::Tbi),
@@ -72,12 +73,12 @@ fn begin_clocks(d: Device, n: u32) -> Begun
     );
     whole(Stepped {
         device: Device {
-            interrupts: d.interrupts.raise(advanced.timeouts.channels()),
-            timers: advanced.timers,
+            interrupts: d.interrupts.raise(timeouts.channels()),
+            timers,
             ..d
         },
         answer: Answer::Done,
-        timeouts: advanced.timeouts,
+        timeouts,
     })
 }
 
@@ -113,13 +114,10 @@ fn begin_write(d: Device, r: Register, v: u8) -> Begun
 fn begin_acknowledge(d: Device, iei: bool) -> Begun
     ensures { finished result d ≡ step_of d (Acknowledge iei) }
 {
-    let k = requests::acknowledge(d.interrupts, iei);
+    let Acknowledged { interrupts, reply } = requests::acknowledge(d.interrupts, iei);
     whole(Stepped {
-        device: Device {
-            interrupts: k.interrupts,
-            ..d
-        },
-        answer: replied(k.reply),
+        device: Device { interrupts, ..d },
+        answer: replied(reply),
         timeouts: Timeouts::zero(),
     })
 }

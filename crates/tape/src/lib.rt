@@ -14,8 +14,7 @@ use record::RECORD_BYTES;
 pub const TAPE_MOST: usize = 4096;
 
 // The event that is taken of a record: what it means, if the check lets it pass; n is then its lowest byte in all
-// kinds but 5. Each arm reads its own bytes and writes its event out, so that the compiler keeps it in registers
-// (D87).
+// kinds but 5. `taken` speaks of every kind byte. Each arm reads its own bytes and writes its event out (D87).
 #[tactic(auto, unfolding(record::specs::Taken::taken))]
 pub fn event_of(bytes: &[u8; RECORD_BYTES]) -> Event
     ensures { result ≡ taken (raw_of bytes.now) }

@@ -65,7 +65,8 @@ fn put_counts(line: &mut Text, n: Timeouts)
     put_number(line, n.d, b'\n');
 }
 
-// Writes a line at the start of the buffer, and returns its length.
+// Writes a line at the start of the buffer, and returns its length; into one that is too short nothing, and 0, as
+// `written_length` has it.
 fn write(out: &mut [u8], line: &Text) -> usize
     ensures value { result ≡ written_length line.now.items out.old }
     ensures out_after { out.new ≡ written line.now.items out.old }
@@ -97,8 +98,8 @@ impl Line {
     }
 }
 
-// Writes the line of a refused tape, and returns its length. It takes any number, a refusal's or not: it asks
-// nothing of it.
+// Writes the line of a refused tape, and returns its length. It takes any number, a refusal's or not: its clauses
+// say so of every number, and a narrower type would ask more.
 pub fn refused(out: &mut [u8], number: u8, index: u16) -> usize
     ensures value { result ≡ written_length (refused_line number index) out.old }
     ensures out_after { out.new ≡ written (refused_line number index) out.old }

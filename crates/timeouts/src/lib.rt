@@ -11,7 +11,7 @@ use channels::Channel;
 use timer::Timer;
 use timers::Timers;
 
-// How many timeouts each timer made.
+// How many timeouts each timer made. Its methods and those of Timers have nothing in common but the four names.
 #[derive(Clone, Copy)]
 pub struct Timeouts {
     pub a: u32,
@@ -20,7 +20,7 @@ pub struct Timeouts {
     pub d: u32,
 }
 
-// The timers after clocks or count pulses, and the timeouts that these made.
+// The timers after clocks or count pulses, and the timeouts that these made: for all four what `Clocked` is for one, under the same names and no common rule.
 #[derive(Clone, Copy)]
 pub struct Advanced {
     pub timers: Timers,
@@ -61,6 +61,7 @@ impl Timeouts {
 pub fn clocks(t: Timers, tai: bool, tbi: bool, n: u32) -> Advanced
     ensures { result ≡ clocked_by tai tbi n t }
 {
+    // taken apart by a pattern: `t.a` and its like tie the timers together (D87)
     let Timers { a, b, c, d } = t;
     let a = countdown::clocks(a, tai, n);
     let b = countdown::clocks(b, tbi, n);
@@ -83,7 +84,7 @@ pub fn clocks(t: Timers, tai: bool, tbi: bool, n: u32) -> Advanced
 }
 
 // One count pulse of A, of B, of both or of none. Most changes of signals give none, and then nothing is
-// worked out.
+// worked out. The timers are taken apart by a pattern: `..t` would tie them together (D87).
 pub fn count(t: Timers, a: bool, b: bool) -> Advanced
     ensures { result ≡ pulsed_by a b t }
 {

@@ -56,6 +56,7 @@ impl Timer {
         self.mode == 8
     }
 
+    // The two kinds of modes are two rules of the paper, each in a line.
     pub fn delays(self) -> bool
         ensures { result ≡ delay self.mode }
     {
@@ -117,6 +118,7 @@ impl Timer {
             }
             .pulse();
         }
+        // below the divisor, where `try_from` would bring an error that can't be
         Timer {
             position: next as u8,
             ..self

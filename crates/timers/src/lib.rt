@@ -86,6 +86,7 @@ impl Timers {
     pub fn write(self, r: TimerRegister, v: u8) -> Timers
         ensures { result ≡ timer_written r v self }
     {
+        // taken apart first: a timer changed where it stands costs more instructions (D87)
         let Timers { a, b, c, d } = self;
         let mut t = self;
         match r {

@@ -1,5 +1,5 @@
 -- The whole text in its buffer: refused, one line; accepted, the lines of its records. Assumes nothing.
-use Prim.Native.Nat.{ℕ, zero-le, ◌≤◌, ◌<◌}
+use Prim.Native.Nat.{ℕ, zero-le, ◌*◌, ◌/◌, ◌%◌, ◌≤◌, ◌<◌}
 use mathlib.Core.Path.{◌≡◌, refl, sym, ap, ◌∙◌}
 use mathlib.Core.Bool.{true}
 use mathlib.Core.List.{List, ◌++◌}
@@ -10,15 +10,16 @@ use Rattle.std.specs.Prelude.{Result, Ok, Err}
 use Rattle.events.specs.Numbers.{number_of}
 use Rattle.events.specs.declared.RefusedAt.{RefusedAt}
 use Rattle.bits.proofs.Bits.{joined}
-use Rattle.checks.proofs.Checks.{passed}
+use Rattle.checks.proofs.Checks.{number_low, let_through}
+use Rattle.device.specs.declared.Device.{Device}
 use Rattle.device.specs.Whole.{fresh_device}
 use Rattle.text.specs.Lines.{refused_line, written, written_length, Counts}
 use Rattle.text.proofs.Whole.{counts, length_long, written_long}
 use Rattle.tape.specs.Tapes.{fitting, records, events_of}
-use Rattle.checks.specs.Checks.{first_bad, checked}
-use Rattle.transcript.specs.Transcript.{enough, lines_of, text_of, transcript_of, printed, printed_length}
+use Rattle.checks.specs.Checks.{first_bad, checked, result_code, tape_result}
+use Rattle.transcript.specs.Transcript.{records_most, enough, lines_of, check_of, text_of, transcript_of, printed, printed_length}
 use Rattle.transcript.specs.Private.{answers_most}
-use Rattle.transcript.proofs.Codes.{room_enough}
+use Rattle.transcript.proofs.Codes.{room_enough, code_low}
 
 module _ (tape out : List ℕ) where
   abbrev whole : List ℕ
@@ -53,10 +54,28 @@ module _ (tape out : List ℕ) where
       -- an accepted tape has its length right, and none of its records is refused
       pub accepted : (fitting tape ≡ true) × (first_bad tape 0 (records tape) ≡ Ok tt)
       unfolding fitting
-      accepted = let p = passed tape answers_most (sym is) in (joined _ _ (eq-eqb _ _ p.even) (le-leb _ _ p.short), p.fine)
+      accepted = let p = let_through tape answers_most (sym is) in (joined _ _ (eq-eqb _ _ p.even) (le-leb _ _ p.short), p.fine)
 
       -- "prints one line a record"
       pub lines : (r : ℕ) (after : List ℕ) → r ≡ length (lines_of 0 fresh_device (events_of tape)) → r ≤ length after → after ≡ lines_of 0 fresh_device (events_of tape) ++ drop r out → Printed after r
       lines r after p f q =
           let text = lines_of 0 fresh_device (events_of tape) in
           held text (text_is (Ok tt) is) r after p (q ∙ ap (λ (n : ℕ). text ++ drop n out) p) (counts r after f)
+
+-- and so by the code alone, from any start: the line of a refused tape, its index from a number that fits 16 bits
+module _ (start : Device) (tape : List ℕ) (c : ℕ) (is : c ≡ tape_result tape answers_most) where
+  refused_is : (c ≡ 0 → ⊥) → transcript_of start tape ≡ refused_line (c % 256) (c / 256 % 65536)
+  unfolding transcript_of
+  refused_is n = go (check_of tape) code_is
+    where
+      code_is : c ≡ result_code (check_of tape)
+      code_is = is ∙ ap result_code (room_enough tape)
+
+      go : (k : Result (Unit {0}) RefusedAt) → c ≡ result_code k → text_of start (events_of tape) k ≡ refused_line (c % 256) (c / 256 % 65536)
+      go (Ok u) p = absurd (n p)
+      go (Err x) p =
+          let l = number_low x.refusal in
+          let low : c < 256 * records_most = rw (← code_is) at (code_low tape) in
+          let a : number_of x.refusal ≡ c % 256 = omega arith in
+          let b : x.index ≡ c / 256 % 65536 = omega arith in
+          rw (a, b) refl

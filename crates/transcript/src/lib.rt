@@ -16,6 +16,7 @@ ghost use Rattle.transcript.specs.Private.{MayStep, Steps};
 use answer::ANSWER_BYTES;
 use device::{Device, Stepped};
 use events::Event;
+use lent::Answered;
 use record::RECORD_BYTES;
 use tape::TAPE_MOST;
 use text::{LINE_MOST, Line};
@@ -36,11 +37,11 @@ fn lent_step(d: Device, e: Event) -> Stepped
     ensures { result ≡ step_of d e }
 {
     let mut device = d;
-    let a = lent::event(&mut device, e).unwrap();
+    let Answered { answer, timeouts } = lent::event(&mut device, e).unwrap();
     Stepped {
         device,
-        answer: a.answer,
-        timeouts: a.timeouts,
+        answer,
+        timeouts,
     }
 }
 
@@ -53,6 +54,7 @@ fn put_line(out: &mut [u8], i: usize, s: Stepped) -> usize
     ensures out_after { out.new ≡ step_line i s ++ drop result out.old }
 {
     let line = Line {
+        // below 512, where `try_from` would bring an error that can't be
         index: i as u16,
         answer: s.answer,
         irq: s.device.irq(),
@@ -101,7 +103,8 @@ fn print<F: Fn(Device, Event) -> Stepped>(tape: &[u8], out: &mut [u8], step: F) 
     }
 }
 
-// Writes what the replay program prints for a tape, and returns its length.
+// Writes what the replay program prints for a tape, and returns its length; into a buffer that is too short
+// nothing, and 0, as `printed_length` has it.
 pub fn transcript(tape: &[u8], out: &mut [u8]) -> usize
     ensures value { result ≡ printed_length (transcript_of fresh_device tape.now) out.old }
     ensures out_after { out.new ≡ printed (transcript_of fresh_device tape.now) out.old }

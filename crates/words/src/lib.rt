@@ -12,6 +12,7 @@ pub const MIDDLE_BYTES: usize = 12;
 
 const HEX_DIGITS: [u8; 16] = *b"0123456789ABCDEF";
 
+// The letter of a class, by the paper's table: a part of the words, as bytes, like the rest.
 fn class_letter(a: Answer) -> u8
     ensures { result ≡ class_letter a }
 {

@@ -39,8 +39,8 @@ told_value P Q (Err k) s x m e p = absurd (subst (λ t. IsErrAnd t (Q k)) e m)
 fits : (n : ℕ) (buffer : List ℕ) → n ≤ length buffer → length buffer ≡ tape_most + 1 → length (take n buffer) ≤ tape_most → n < length buffer
 fits n buffer w l h = omega (arith, length-take-le n buffer w)
 
-pub returns : goal.returns
-returns g c =
+pub returns-clause-replayed : goal.returns-clause-replayed
+returns-clause-replayed g c =
     let read = c.read_full.ensures in
     let within = told_value _ _ c.read_full.result c.map_err.result c.in_ok-n.n c.map_err.ensures.cases c.in_ok-n.was read.within in
     told _ c.write_all.result c.map_err-2.result c.map_err-2.ensures.variant

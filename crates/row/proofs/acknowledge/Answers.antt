@@ -36,7 +36,7 @@ returns c =
     rw (a.0, a.1) d
 
 pub returns-then-is_empty : goal.returns-then-is_empty
-returns-then-is_empty c = unfit c.args.row.now (unfits (length c.args.row.now) c.is_empty.result c.is_empty.ensures c.then-is_empty.either)
+returns-then-is_empty c = rw c.into.ensures (unfit c.args.row.now (unfits (length c.args.row.now) c.is_empty.result c.is_empty.ensures c.then-is_empty.either))
 
 pub returns-then-not-keeps_rule : goal.returns-then-not-keeps_rule
 returns-then-not-keeps_rule c =

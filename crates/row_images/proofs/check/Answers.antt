@@ -12,7 +12,7 @@ use Rattle.row_images.proofs.check.Goals as goal
 use Rattle.row_images.proofs.check.Goals.{then-is_empty-via-then-is_empty, then-is_empty-via-else-is_empty+then-images}
 
 pub returns-then-is_empty : goal.returns-then-is_empty
-returns-then-is_empty c = sym (unfit c.args.images.now long)
+returns-then-is_empty c = rw c.into.ensures (sym (unfit c.args.images.now long))
   where
     long : (length c.args.images.now ≡ 0) ⊎ (row_most * image_bytes < length c.args.images.now)
     long = elim c.then-is_empty.branch [
@@ -25,7 +25,7 @@ returns-then-not-is_empty c =
     let e = eqb-false _ _ (sym c.is_empty.ensures ∙ c.if-is_empty.false) in
     let r = eqb-false _ _ (sym c.is_empty-2.ensures ∙ c.if-not-is_empty.true) in
     let l = c.as_chunks.ensures.back_len in
-    sym (uneven c.args.images.now (omega arith) c.if-images.false (λ z. r (l ∙ z)))
+    rw c.into-then-not-is_empty.ensures (sym (uneven c.args.images.now e c.if-images.false (λ z. r (l ∙ z))))
 
 pub loop-i-init : goal.loop-i-init
 loop-i-init c = checked_none c.args.images.now (images c.args.images.now)
@@ -43,7 +43,7 @@ returns-in_err-map_err c = go c.check_image.result refl
         let n = eqb-false _ _ (sym c.is_empty.ensures ∙ c.if-is_empty.false) in
         let z = eqb-true _ _ (sym c.is_empty-2.ensures ∙ c.if-not-is_empty.false) in
         let l = c.as_chunks.ensures.back_len in
-        k ∙ sym (by_images b (omega arith) c.if-images.false (sym l ∙ z) ∙ checked_bad b (images b) i c.loop-i.invariant _ _ [] (omega arith) c.as_chunks.ensures.front refl r (sym c.check_image.ensures ∙ e))
+        k ∙ sym (by_images b n c.if-images.false (sym l ∙ z) ∙ checked_bad b (images b) i c.loop-i.invariant _ _ [] (omega arith) c.as_chunks.ensures.front refl r (sym c.check_image.ensures ∙ e))
 
 pub loop-i-preserved : goal.loop-i-preserved
 loop-i-preserved c =
@@ -59,4 +59,4 @@ returns c =
     let n = eqb-false _ _ (sym c.is_empty.ensures ∙ c.if-is_empty.false) in
     let z = eqb-true _ _ (sym c.is_empty-2.ensures ∙ c.if-not-is_empty.false) in
     let l = c.as_chunks.ensures.back_len in
-    sym (by_images b (omega arith) c.if-images.false (sym l ∙ z) ∙ checked_all b (images b) c.loop-i.i-counter c.loop-i.invariant (omega arith))
+    sym (by_images b n c.if-images.false (sym l ∙ z) ∙ checked_all b (images b) c.loop-i.i-counter c.loop-i.invariant (omega arith))

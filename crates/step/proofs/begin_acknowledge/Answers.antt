@@ -11,7 +11,7 @@ unfolding effect_of
 returns c =
     let d = c.args.d in
     ap (λ (b : Begun). finished b d) c.whole.ensures ∙ (λ k. record {
-      device = with_interrupts (c.acknowledge-k.ensures k).interrupts d;
-      answer = (c.replied.ensures ∙ (λ i. replied (c.acknowledge-k.ensures i).reply)) k;
+      device = with_interrupts (c.acknowledge-reply.ensures k).interrupts d;
+      answer = (c.replied.ensures ∙ (λ i. replied (c.acknowledge-reply.ensures i).reply)) k;
       timeouts = c.zero.ensures k;
     })

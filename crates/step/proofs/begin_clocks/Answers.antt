@@ -19,7 +19,7 @@ unfolding effect_of
 returns c =
     let a = c.args in
     let d = a.d in
-    let moved : c.clocks-advanced.result ≡ record { timers = span_timers a.n d; timeouts = span_timeouts a.n d } = c.clocks-advanced.ensures ∙ ap₂ (λ (x y : Bool). clocked_by x y a.n d.timers) c.input_is_active.ensures c.input_is_active-2.ensures in
+    let moved : c.clocks.result ≡ record { timers = span_timers a.n d; timeouts = span_timeouts a.n d } = c.clocks.ensures ∙ ap₂ (λ (x y : Bool). clocked_by x y a.n d.timers) c.input_is_active.ensures c.input_is_active-2.ensures in
     let counts = ap (λ (m : Advanced). m.timeouts) moved ∙ sym (timeouts_each a.n d) in
     let raises = c.raise.ensures ∙ ap (λ s. raised s d.interrupts) (c.channels.ensures ∙ ap (λ (m : Timeouts). raised_by (timeout_raises m)) counts) in
     let after : ◌≡◌ {A = Device} _ _ = (λ k. record { lines = d.lines; interrupts = raises k; timers = (moved k).timers }) ∙ sym (clocks_each a.n d) in

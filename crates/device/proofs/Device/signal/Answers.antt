@@ -20,7 +20,7 @@ returns c =
     let a = c.args in
     let d = a.self in
     let after = a.after in
-    let moved : c.count-counted.result ≡ record { timers = signal_timers after d; timeouts = signal_timeouts after d } = c.count-counted.ensures ∙ ap₂ (λ (x y : Bool). pulsed_by x y d.timers) c.counts.ensures c.counts-2.ensures in
+    let moved : c.count.result ≡ record { timers = signal_timers after d; timeouts = signal_timeouts after d } = c.count.ensures ∙ ap₂ (λ (x y : Bool). pulsed_by x y d.timers) c.counts.ensures c.counts-2.ensures in
     let counts = ap (λ (m : Advanced). m.timeouts) moved in
     let by_lines = c.raises-raised.ensures ∙ ap₂ (λ (x y : Bool). raised_by (signal_raises (of_inputs x y) d.lines after)) c.measuring.ensures.0 c.measuring.ensures.1 in
     let by-timers = c.channels.ensures ∙ ap (λ (m : Timeouts). raised_by (timeout_raises m)) counts in

@@ -3,7 +3,7 @@
 #![tactic(auto)]
 
 ghost use Rattle.std.specs.Prelude.{◌≡◌};
-ghost use Rattle.row.specs.Rows.{ieo, row_answer, row_after};
+ghost use Rattle.row.specs.Rows.{ieo, fitting, row_answer, row_after};
 
 use device::Device;
 use events::{Answer, Refusal, RefusedAt};
@@ -25,13 +25,20 @@ pub fn ieo(a: Answer) -> bool
     matches!(a, Answer::PassedOn)
 }
 
+// Whether so many devices make a row.
+fn fits(n: usize) -> bool
+    ensures { result ≡ fitting n }
+{
+    0 < n && n <= ROW_MOST
+}
+
 // The acknowledge over a lent row, the first device with IEI asserted: who gave which vector, or None where
 // all passed on. Refusal 10, then 3 with the index of the first device that breaks the image rule; the row
 // is then as it came.
 pub fn acknowledge(row: &mut [Device]) -> Result<Option<Given>, RefusedAt>
     ensures { (result ≡ row_answer row.old) × (row.new ≡ row_after row.old) }
 {
-    if row.is_empty() || ROW_MOST < row.len() {
+    if !fits(row.len()) {
         return Err(Refusal::RowLength.into());
     }
     for (i, d) in row.iter().enumerate() {

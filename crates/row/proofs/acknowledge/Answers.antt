@@ -1,17 +1,8 @@
 -- `row::acknowledge` meets its contract: one loop checks the row, one acknowledges it. Assumes nothing.
-use Rattle.std.proofs.Common.{ℕ, ◌≡◌, ◌≤◌, ◌<◌, ◌⊎◌, Bool, true, false, eqb, sym, length, arith, ◌∙◌}
-use Rattle.std.proofs.lemmas.Bool.Decides.{nat_tests}
-use Rattle.row.specs.Rows.{fitting}
+use Rattle.std.proofs.Common.{◌≤◌, sym, length, arith, ◌∙◌}
 use Rattle.row.proofs.Going.{checked_more, broken, checked_all, along_more, given_still, along_all, unfit, ruled_out, done}
 use Rattle.row.proofs.acknowledge.Goals as goal
 use Rattle.row.proofs.acknowledge.Goals.{in-Vector, in_default}
-
--- ---- the length
-fits : (n : ℕ) → eqb n 0 ≡ false → n ≤ 8 → fitting n ≡ true
-fits n e l = grind (arith, nat_tests)
-
-unfits : (n : ℕ) (none : Bool) → none ≡ eqb n 0 → (none ≡ true) ⊎ ((none ≡ false) × (8 < n)) → fitting n ≡ false
-unfits n none e h = grind (arith, nat_tests)
 
 pub loop-i-preserved : goal.loop-i-preserved
 loop-i-preserved c = checked_more c.args.row.now c.loop-i.i c.loop-i.invariant _ c.loop-i-test.true (sym c.if-not-keeps_rule.ensures)
@@ -32,13 +23,13 @@ returns c =
     let l : length r.row ≤ r.i = omega arith in
     let a = along_all _ r.row r.iei r.given r.i r.invariant l in
     let k = checked_all c.args.row.now c.loop-i.i c.loop-i.invariant c.loop-i-test.false in
-    let d = done c.args.row.now (fits (length c.args.row.now) (sym c.if-is_empty.ensures) (omega arith)) k in
+    let d = done c.args.row.now (sym c.if-not-fits.ensures) k in
     rw (a.0, a.1) d
 
-pub returns-then-is_empty : goal.returns-then-is_empty
-returns-then-is_empty c = rw c.into.ensures (unfit c.args.row.now (unfits (length c.args.row.now) c.is_empty.result c.is_empty.ensures c.then-is_empty.either))
+pub returns-then-not-fits : goal.returns-then-not-fits
+returns-then-not-fits c = rw c.into.ensures (unfit c.args.row.now (sym c.if-not-fits.ensures))
 
 pub returns-then-not-keeps_rule : goal.returns-then-not-keeps_rule
 returns-then-not-keeps_rule c =
     let b = broken c.args.row.now c.loop-i.i c.loop-i.invariant _ c.loop-i-test.true (sym c.if-not-keeps_rule.ensures) in
-    rw b.1 at (ruled_out c.args.row.now (fits (length c.args.row.now) (sym c.if-is_empty.ensures) (omega arith)) b.0)
+    rw b.1 at (ruled_out c.args.row.now (sym c.if-not-fits.ensures) b.0)

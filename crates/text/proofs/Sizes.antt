@@ -17,14 +17,14 @@ use Rattle.text.proofs.Decimal.{at_most}
 abbrev pub Takes : ℕ → ℕ → Type 0
 Takes n most = (length (decimal n) < most) × (length (spaced (decimal n)) ≤ most) × (length (ended (decimal n)) ≤ most)
 
-takes : (k n : ℕ) → n < 10 ^ suc k → n < 2 ^ 64 → Takes n (suc k + 1)
-takes k n h w = let d = at_most k n h w in (omega arith, rw length-append (omega arith), rw length-append (omega arith))
+takes : (k n : ℕ) → n < 10 ^ suc k → Takes n (suc k + 1)
+takes k n h = let d = at_most k n h in (omega arith, rw length-append (omega arith), rw length-append (omega arith))
 
 pub index_takes : (n : ℕ) → n < 2 ^ 16 → Takes n index_most
-index_takes n h = takes 4 n (omega arith) (omega arith)
+index_takes n h = takes 4 n (omega arith)
 
 pub count_takes : (n : ℕ) → n < 2 ^ 32 → Takes n count_most
-count_takes n h = takes 9 n (omega arith) (omega arith)
+count_takes n h = takes 9 n (omega arith)
 
 -- ---- the parts of a line
 parts_fit : index_most + middle_bytes + counts_most ≤ line_most

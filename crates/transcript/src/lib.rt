@@ -16,7 +16,7 @@ ghost use Rattle.transcript.specs.Private.{MayStep, Steps};
 use answer::ANSWER_BYTES;
 use device::{Device, Stepped};
 use events::Event;
-use lent::Answered;
+use lent::{Answered, Handled};
 use record::RECORD_BYTES;
 use tape::TAPE_MOST;
 use text::{LINE_MOST, Line};
@@ -36,8 +36,8 @@ fn lent_step(d: Device, e: Event) -> Stepped
     requires operands_in_range { in_range e ≡ true }
     ensures { result ≡ step_of d e }
 {
-    let mut device = d;
-    let Answered { answer, timeouts } = lent::event(&mut device, e).unwrap();
+    let Handled { device, outcome } = lent::event_by_value(d, e);
+    let Answered { answer, timeouts } = outcome.unwrap();
     Stepped {
         device,
         answer,
@@ -75,11 +75,12 @@ fn put_lines<F: Fn(Device, Event) -> Stepped>(tape: &[u8], out: &mut [u8], step:
     ensures upper_bound { result ≤ length out.new }
     ensures out_after { out.new ≡ lines_of 0 fresh_device (events_of tape.now) ++ drop result out.old }
 {
-    let (records, _) = tape.as_chunks::<RECORD_BYTES>();
     let mut d = Device::fresh();
     let mut at = 0;
-    for (i, bytes) in records.iter().enumerate() {
-        let s = step(d, tape::event_of(bytes));
+    for i in 0..tape.len() / RECORD_BYTES {
+        // a checked tape has every record
+        let e = tape::record_at(tape, i).unwrap().unwrap();
+        let s = step(d, e);
         at += put_line(&mut out[at..], i, s);
         d = s.device;
     }

@@ -7,6 +7,7 @@ use mathlib.Core.Path.{◌≡◌, refl, sym, ap, ◌∙◌}
 use mathlib.Core.Bool.{true}
 use mathlib.Core.List.{List, [], ◌∷◌}
 use native.Mathlib.Omega.{arith}
+use lib.Dec.{lit<}
 use lib.ListN.{length, get_or, take, drop}
 use lib.Seq.{drop-drop}
 use Rattle.events.specs.declared.RefusedAt.{RefusedAt}
@@ -19,7 +20,7 @@ use Rattle.row_images.specs.RowImages.{row_of, refused_at, first_refused}
 use Rattle.std.specs.Simd.{first_chunks}
 use Rattle.tape.proofs.Chunks.{chunk}
 use Rattle.checks.specs.Checks.{bad_at, result_code}
-use Rattle.checks.proofs.Checks.{nothing_refused}
+use Rattle.checks.proofs.Checks.{nothing_refused, number_low}
 
 -- ---- one image
 -- an image let pass has been accepted, and no later one is refused
@@ -53,6 +54,10 @@ pub bad_code : (l : Result Device Refusal) (i : ℕ) (later : Result (Unit {0}) 
     → 256 * i + result_code (refused_at l 0 (Ok tt)) ≡ result_code (refused_at l i later)
 bad_code (Ok d) i later h = absurd (h refl)
 bad_code (Err r) i later h = omega arith
+
+pub code_low : (l : Result Device Refusal) → result_code (refused_at l 0 (Ok tt)) < 256
+code_low (Ok d) = lit< tt
+code_low (Err r) = omega (arith, number_low r)
 
 -- ---- the i-th of n images
 -- the image that starts at byte `at`
